@@ -1,0 +1,4 @@
+-- What the contracts of `colors` cite.
+pub mod Colour
+pub mod Palettes
+pub mod Shade

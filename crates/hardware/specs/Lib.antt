@@ -1,0 +1,2 @@
+-- What the contracts cite of the machine's measures.
+pub mod Screen

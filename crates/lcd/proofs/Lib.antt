@@ -1,0 +1,2 @@
+-- The laws of `lcd` that belong to no one function.
+pub mod Chosen

@@ -1,0 +1,3 @@
+-- What the contracts of `lcd` cite.
+pub mod Mix
+pub mod Pictures

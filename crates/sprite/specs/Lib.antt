@@ -1,0 +1,3 @@
+-- What the contracts of `sprite` cite.
+pub mod Oam
+pub mod Pick

@@ -1,0 +1,232 @@
+// Sprites: an entry of OAM, and the search of a line for the ten to draw.
+ghost use mathlib.Core.Path.{_≡_};
+ghost use Prim.Native.Nat.{_<_, _*_, _+_};
+ghost use lib.ListN.{length, getD, set};
+ghost use Rattle.sprite.specs.Oam.{entry, screenY, screenX, inRange, colourPalette, bankOf, greyPalette, xFlip, yFlip, behind, bytesOf, movedLeft};
+ghost use Rattle.sprite.specs.Pick.{selection, blankSlots, refusedPick, pickOf};
+use hardware::Machine;
+
+// The four bytes of an entry of OAM.
+pub struct Sprite {
+    pub y: u8,
+    pub x: u8,
+    pub tile: u8,
+    pub flags: u8,
+}
+
+impl Sprite {
+    // Entry i of OAM.
+    pub fn at(oam: &[u8], i: usize) -> Self
+        requires { ⌜ 4 * i + 3 < length (now oam) ⌝ }
+        ensures { λ r. ⌜ r ≡ entry (now (oam .entry)) i ⌝ }
+    {
+        Sprite {
+            y: oam[4 * i],
+            x: oam[4 * i + 1],
+            tile: oam[4 * i + 2],
+            flags: oam[4 * i + 3],
+        }
+    }
+
+    // The byte at an offset of the entry: y, x, tile, flags.
+    pub fn get_at_offset(self, offset: u8) -> u8
+        requires { ⌜ offset < 4 ⌝ }
+        ensures { λ r. ⌜ r ≡ getD (bytesOf self) offset 0 ⌝ }
+    {
+        match offset {
+            0 => self.y,
+            1 => self.x,
+            2 => self.tile,
+            _ => self.flags,
+        }
+    }
+
+    // The entry with another byte at an offset.
+    pub fn set_at_offset(self, offset: u8, data: u8) -> Self
+        requires { ⌜ offset < 4 ⌝ }
+        ensures { λ r. ⌜ r ≡ entry (set (bytesOf self) offset «data») 0 ⌝ }
+    {
+        let mut next = self;
+        match offset {
+            0 => next.y = data,
+            1 => next.x = data,
+            2 => next.tile = data,
+            _ => next.flags = data,
+        }
+        next
+    }
+
+    // The line of the top row.
+    pub fn screen_y(self) -> u8
+        ensures { λ r. ⌜ r ≡ screenY (self .y) ⌝ }
+    {
+        wrap::wrapping_sub(self.y, 16)
+    }
+
+    // The column of the left edge.
+    pub fn screen_x(self) -> u8
+        ensures { λ r. ⌜ r ≡ screenX (self .x) ⌝ }
+    {
+        wrap::wrapping_sub(self.x, 8)
+    }
+
+    // Whether a line meets a row of the sprite.
+    pub fn in_range(self, line: u8, height: u8) -> bool
+        ensures { λ r. ⌜ r ≡ inRange (self .y) line height ⌝ }
+    {
+        let top = self.screen_y();
+        wrap::wrapping_sub(line, top) < height
+    }
+
+    pub fn dmg_palette(self) -> u8
+        ensures { λ r. ⌜ r ≡ greyPalette (self .flags) ⌝ }
+    {
+        wrap::digit(self.flags, 4)
+    }
+
+    // Whether background colours 1 to 3 stand above the sprite.
+    pub fn bg_priority(self) -> bool
+        ensures { λ r. ⌜ r ≡ behind (self .flags) ⌝ }
+    {
+        wrap::bit(self.flags, 7)
+    }
+
+    pub fn y_flipped(self) -> bool
+        ensures { λ r. ⌜ r ≡ yFlip (self .flags) ⌝ }
+    {
+        wrap::bit(self.flags, 6)
+    }
+
+    pub fn x_flipped(self) -> bool
+        ensures { λ r. ⌜ r ≡ xFlip (self .flags) ⌝ }
+    {
+        wrap::bit(self.flags, 5)
+    }
+
+    pub fn cgb_palette(self) -> u8
+        ensures { λ r. ⌜ r ≡ colourPalette (self .flags) ⌝ }
+    {
+        self.flags % 8
+    }
+
+    pub fn bank(self) -> u8
+        ensures { λ r. ⌜ r ≡ bankOf (self .flags) ⌝ }
+    {
+        wrap::digit(self.flags, 3)
+    }
+}
+
+// A copy of an entry, with its index.
+pub struct SelectedSprite {
+    pub sprite: Sprite,
+    pub index: u8,
+}
+
+impl SelectedSprite {
+    pub fn new(sprite: Sprite, index: u8) -> Self
+        ensures { λ r. ⌜ (r .sprite ≡ sprite) × (r .index ≡ index) ⌝ }
+    {
+        SelectedSprite { sprite, index }
+    }
+}
+
+// The entries that a search picked: the first `count` of the slots.
+pub struct Selection {
+    pub count: u8,
+    pub slots: [SelectedSprite; 10],
+}
+
+// The ten lowest entries in range of a line, over slots that keep what they had past the count.
+pub fn select(oam: &[u8], line: u8, height: u8, former: [SelectedSprite; 10]) -> Selection
+    requires { ⌜ length (now oam) ≡ 160 ⌝ }
+    ensures { λ r. ⌜ r ≡ selection (now (oam .entry)) line height former ⌝ }
+{
+    let mut slots = former;
+    let mut count: usize = 0;
+    'search: for i in 0..40 {
+        let sprite = Sprite::at(oam, i);
+        if sprite.in_range(line, height) {
+            slots[count] = SelectedSprite {
+                sprite,
+                index: i as u8,
+            };
+            count += 1;
+            if count == 10 {
+                break 'search;
+            }
+        }
+    }
+    Selection {
+        count: count as u8,
+        slots,
+    }
+}
+
+// The answer to a pick: 01's number, and what was picked.
+pub struct Picked {
+    pub number: u8,
+    pub selection: Selection,
+}
+
+fn blank() -> [SelectedSprite; 10]
+    ensures { λ r. ⌜ r ≡ blankSlots ⌝ }
+{
+    let nothing = Sprite {
+        y: 0,
+        x: 0,
+        tile: 0,
+        flags: 0,
+    };
+    [SelectedSprite {
+        sprite: nothing,
+        index: 0,
+    }; 10]
+}
+
+fn refused(number: u8) -> Picked
+    ensures { λ r. ⌜ r ≡ refusedPick number ⌝ }
+{
+    let slots = blank();
+    let selection = Selection { count: 0, slots };
+    Picked { number, selection }
+}
+
+// The ten lowest entries in range of a line, in slots that are 0 past the count; refused by 1 or 4.
+pub fn pick(oam: &[u8], line: u8, height: u8) -> Picked
+    ensures { λ r. ⌜ r ≡ pickOf (now (oam .entry)) line height ⌝ }
+{
+    if oam.len() != 160 {
+        return refused(1);
+    }
+    if line as usize >= Machine::HEIGHT {
+        return refused(4);
+    }
+    if height != 8 {
+        if height != 16 {
+            return refused(4);
+        }
+    }
+    let slots = blank();
+    let selection = select(oam, line, height, slots);
+    Picked {
+        number: 0,
+        selection,
+    }
+}
+
+// The colours of a sprite at x: below 8 they move left by 8 - x, and 0s follow.
+pub fn move_left(colors: [u8; 8], x: u8) -> [u8; 8]
+    ensures { λ r. ⌜ r ≡ movedLeft colors x ⌝ }
+{
+    if x >= 8 {
+        return colors;
+    }
+    let by = 8 - x as usize;
+    let mut out = [0u8; 8];
+    let mut i = 0;
+    while i + by < 8 {
+        out[i] = colors[i + by];
+        i += 1;
+    }
+    out
+}
