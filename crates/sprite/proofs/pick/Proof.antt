@@ -1,7 +1,10 @@
 -- `sprite::pick` meets its contract.
 use mathlib.Core.Logic.{⊎-elim}
+use Prim.Native.Nat.{_≤_, _<_}
+use native.Mathlib.Omega.{arith}
 use borrow.Author.Needs.{needs}
 use borrow.Author.Tests.{eq-eqb, ne-eqb, lt-ltb, le-ltb}
+use Rattle.hardware.specs.Screen.{height}
 use Rattle.sprite.specs.Pick.{pickNumber, pickOf}
 use Rattle.sprite.proofs.pick.Statement.{statement}
 use Rattle.sprite.proofs.pick.Tie as tie
@@ -18,7 +21,9 @@ refused-requires-2 c κs = search needs
 
 returns-2 : tie.Need-returns-2
 unfolding pickOf pickNumber
-returns-2 c = rw (c .refused2 .ensures, eq-eqb _ _ (c .before .before .if1 .left), le-ltb _ _ (c .before .if2 .taken))
+returns-2 c =
+    let below : height ≤ c .before .before .before .before .args .line = omega arith in
+    rw (c .refused2 .ensures, eq-eqb _ _ (c .before .before .if1 .left), le-ltb _ _ below)
 
 refused-requires-3 : tie.Need-refused-requires-3
 refused-requires-3 c κs = search needs
@@ -26,8 +31,9 @@ refused-requires-3 c κs = search needs
 returns-3 : tie.Need-returns-3
 unfolding pickOf pickNumber
 returns-3 c =
+    let above : c .before .before .before .before .before .before .args .line < height = omega arith in
     rw
-    (c .refused3 .ensures, eq-eqb _ _ (c .before .before .before .before .if1 .left), lt-ltb _ _ (c .before .before .before .if2 .left), ne-eqb _ _ (c .before .before .if3 .taken), ne-eqb _ _ (c .before .if4 .taken))
+    (c .refused3 .ensures, eq-eqb _ _ (c .before .before .before .before .if1 .left), lt-ltb _ _ above, ne-eqb _ _ (c .before .before .if3 .taken), ne-eqb _ _ (c .before .if4 .taken))
 
 blank-requires : tie.Need-blank-requires
 blank-requires c κs = search needs
@@ -40,7 +46,8 @@ unfolding pickOf pickNumber
 returns-4 c =
     let b = c .before .before .before in
     let len = eq-eqb _ _ (b .before .if1 .left) in
-    let row = lt-ltb _ _ (b .if2 .left) in
+    let above : b .before .before .before .args .line < height = omega arith in
+    let row = lt-ltb _ _ above in
     ⊎-elim
     (λ w. rw (c .select .ensures, c .before .blank .ensures, len, row, ne-eqb _ _ (w .0 .taken), eq-eqb _ _ (w .1 .left)))
     (λ w. rw (c .select .ensures, c .before .blank .ensures, len, row, eq-eqb _ _ (w .left)))

@@ -1,0 +1,2 @@
+-- 01's examples hold.
+pub mod Examples

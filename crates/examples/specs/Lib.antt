@@ -1,0 +1,2 @@
+-- 01's examples, as one table.
+pub mod Examples
