@@ -1,0 +1,2 @@
+-- The laws of `picks` that belong to no one function.
+mod Lengths

@@ -1,0 +1,2 @@
+-- What the contracts of `picks` cite.
+pub mod Request

@@ -1,0 +1,70 @@
+// Reads OAM, a line and a height from standard input, 162 bytes, and prints what a search of that line picks.
+ghost use mathlib.Core.Path.{_≡_};
+ghost use Rattle.picks.specs.Request.{answerTo};
+use libc::STDIN_FILENO;
+use libc::STDOUT_FILENO;
+use sprite::Picked;
+use sprite::SelectedSprite;
+
+// What a request asks for: its last two bytes are the line and the height, OAM is what stands before them.
+fn answer(request: &[u8]) -> Picked
+    ensures { λ r. ⌜ r ≡ answerTo (now (request .entry)) ⌝ }
+{
+    if request.len() < 2 {
+        return sprite::pick(request, 0, 0);
+    }
+    let end = request.len() - 2;
+    sprite::pick(&request[..end], request[end], request[end + 1])
+}
+
+// A space and a byte as a number.
+fn print_next(byte: u8) {
+    io::write_all(STDOUT_FILENO, b" ");
+    io::print_decimal(STDOUT_FILENO, byte as u64);
+}
+
+// One picked entry as a line: its index, y, x, tile and flags.
+fn print_slot(slot: SelectedSprite) {
+    let sprite = slot.sprite;
+    io::print_decimal(STDOUT_FILENO, slot.index as u64);
+    print_next(sprite.y);
+    print_next(sprite.x);
+    print_next(sprite.tile);
+    print_next(sprite.flags);
+    io::write_all(STDOUT_FILENO, b"\n");
+}
+
+// A word, a number and the line's end.
+fn print_line(word: &[u8], number: u8) {
+    io::write_all(STDOUT_FILENO, word);
+    io::print_decimal(STDOUT_FILENO, number as u64);
+    io::write_all(STDOUT_FILENO, b"\n");
+}
+
+// The slots that hold a pick, in order.
+fn print_slots(slots: [SelectedSprite; 10], count: u8) {
+    let held = count as usize;
+    for k in 0..10 {
+        if k < held {
+            print_slot(slots[k]);
+        }
+    }
+}
+
+fn print_answer(answer: Picked) {
+    if answer.number != 0 {
+        print_line(b"refused ", answer.number);
+        return;
+    }
+    let selection = answer.selection;
+    let slots = selection.slots;
+    print_line(b"picked ", selection.count);
+    print_slots(slots, selection.count);
+}
+
+// One byte more than a request has tells a longer input from a whole one.
+fn main() {
+    let mut input = [0u8; 163];
+    let n = io::read_full(STDIN_FILENO, &mut input);
+    print_answer(answer(&input[..n]));
+}

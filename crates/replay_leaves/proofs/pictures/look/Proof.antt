@@ -1,0 +1,53 @@
+-- `pictures::look` is safe and ends: either picture is whole.
+use mathlib.Core.Path.{_≡_}
+use denote.Ref.{now}
+use lib.ListN.{length}
+use Rattle.hardware.specs.Screen.{pictureBytes}
+use Rattle.replay_leaves.proofs.Chosen.{of-both}
+use borrow.Author.Needs.{needs}
+use Rattle.replay_leaves.proofs.pictures.look.Statement.{statement}
+use Rattle.replay_leaves.proofs.pictures.look.Tie as tie
+
+screen-buffer-requires : tie.Need-screen-buffer-requires
+screen-buffer-requires c κs = search needs
+
+array-read-if1 : tie.Need-array-read-if1
+array-read-if1 c = search needs
+
+array-read-place : tie.Need-array-read-place
+array-read-place c = search needs
+
+array-read-place-2 : tie.Need-array-read-place-2
+array-read-place-2 c = search needs
+
+place-requires : tie.Need-place-requires
+place-requires c κs =
+    let start = c .before .before .before .before in
+    of-both (λ r. length (now r) ≡ pictureBytes) (start .args .n) (start .args .a) (start .args .b)
+    (c .before .screen-buffer .ensures) (start .pre .0) (start .pre .1)
+
+returns : tie.Need-returns
+returns c = search needs
+
+of-requires : tie.Need-of-requires
+of-requires c κs = search needs
+
+bytes-of-requires : tie.Need-bytes-of-requires
+bytes-of-requires c κs = search needs
+
+returns-2 : tie.Need-returns-2
+returns-2 c = search needs
+
+pub look-spec : {M : Type 1} → statement M
+look-spec =
+    tie.close
+    (tie.spec
+    screen-buffer-requires
+    array-read-if1
+    array-read-place
+    array-read-place-2
+    place-requires
+    returns
+    of-requires
+    bytes-of-requires
+    returns-2)

@@ -1,0 +1,2 @@
+-- What the contracts of `replay_leaves` cite.
+pub mod Sound

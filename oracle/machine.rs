@@ -1,0 +1,305 @@
+//! The protocol `machine`: one whole picture unit with the refusals and the count of stored
+//! places of the document. NOTES.md has the table.
+
+use crate::list::Digest;
+use crate::memory::{InterruptManager, InterruptType};
+use crate::ppu::parts::{LCD_HEIGHT, LCD_WIDTH};
+use crate::ppu::{LookSelected, Ppu};
+use std::io::{self, Write};
+
+const WHOLE: u16 = (LCD_WIDTH * LCD_HEIGHT) as u16;
+
+pub const REFUSED_STEP: u8 = 3;
+pub const REFUSED_ADDRESS: u8 = 4;
+pub const REFUSED_CORRUPTION: u8 = 5;
+
+/// Bit 1 for VBlank, bit 2 for STAT.
+struct Requests(u8);
+
+impl InterruptManager for Requests {
+    fn request_interrupt(&mut self, interrupt: InterruptType) {
+        self.0 |= match interrupt {
+            InterruptType::Vblank => 1,
+            InterruptType::LcdStat => 2,
+        };
+    }
+}
+
+pub struct Machine {
+    pub ppu: Ppu,
+    /// Places stored since the last swap or blanking.
+    pub count: u16,
+    pick: [LookSelected; 10],
+    bytes: Vec<u8>,
+}
+
+impl Machine {
+    /// As after a start of a device that is not DMG, outside colour mode.
+    pub fn new() -> Self {
+        Machine {
+            ppu: Ppu::look_fresh(false, false),
+            count: 0,
+            pick: [[0; 5]; 10],
+            bytes: Vec::new(),
+        }
+    }
+
+    pub fn answer(&mut self, request: [u8; 8]) -> [u8; 16] {
+        let a = &request[1..];
+        let word = u16::from_le_bytes([a[0], a[1]]);
+        let mut answer = [0; 16];
+        match request[0] {
+            1 => {
+                self.ppu = Ppu::look_fresh(a[1] != 0, a[0] != 0);
+                self.count = 0;
+            }
+            2 => self.step(a[0], &mut answer),
+            3 => answer[0] = self.write_register(word, a[2]),
+            4 => match self.read_register(word) {
+                Some(value) => answer[1] = value,
+                None => answer[0] = REFUSED_ADDRESS,
+            },
+            5 => self.ppu.write_vram(word, a[2]),
+            6 => {
+                if a[0] < 160 {
+                    self.ppu.write_oam_no_lock(word, a[2]);
+                } else {
+                    answer[0] = REFUSED_ADDRESS;
+                }
+            }
+            7 => self.ppu.update_cgb_mode(a[0] != 0),
+            8..=10 => answer[0] = self.corrupt(request[0]),
+            11 => {
+                let mut digest = Digest::new();
+                digest.take(self.ppu.look_lcd().look_picture(0));
+                digest.take(self.ppu.look_lcd().look_picture(1));
+                digest.take(&self.ppu.look_oam());
+                answer[8..].copy_from_slice(&digest.0.to_le_bytes());
+            }
+            12 => {
+                self.bytes.clear();
+                self.ppu.look_state(self.count, &mut self.bytes);
+                let mut digest = Digest::new();
+                digest.take(&self.bytes);
+                answer[8..].copy_from_slice(&digest.0.to_le_bytes());
+            }
+            13 => {
+                self.pick = [[0; 5]; 10];
+                if a[0] <= 143 && (a[1] == 8 || a[1] == 16) {
+                    let (count, slots) = self.ppu.look_pick(a[0], a[1]);
+                    self.pick = slots;
+                    answer[1] = count;
+                } else {
+                    answer[0] = REFUSED_ADDRESS;
+                }
+            }
+            14 if a[0] < 10 => answer[1..6].copy_from_slice(&self.pick[a[0] as usize]),
+            15 => {
+                let cycle = self.ppu.look_cycle().to_le_bytes();
+                let end = self.ppu.look_mode_3_end().to_le_bytes();
+                answer[1..8].copy_from_slice(&[
+                    self.ppu.look_line(),
+                    cycle[0],
+                    cycle[1],
+                    self.ppu.look_lcd().x(),
+                    self.ppu.get_current_mode(),
+                    end[0],
+                    end[1],
+                ]);
+            }
+            _ => answer[0] = 255,
+        }
+        answer
+    }
+
+    fn step(&mut self, cycles: u8, answer: &mut [u8; 16]) {
+        if !(cycles == 2 || cycles == 4 && self.ppu.look_cycle() % 4 == 0) {
+            answer[0] = REFUSED_STEP;
+            return;
+        }
+        let shown = self.ppu.look_lcd().look_shown();
+        let places = self.ppu.look_mark(cycles);
+        let mut requests = Requests(0);
+        self.ppu.clock(&mut requests, cycles);
+        self.count = self.count.wrapping_add(self.ppu.look_stored(places));
+
+        let swapped = self.ppu.look_lcd().look_shown() != shown;
+        let stat = self.ppu.look_stat();
+        let count = self.count.to_le_bytes();
+        answer[1..10].copy_from_slice(&[
+            requests.0,
+            stat & 3,
+            stat >> 2 & 1,
+            self.ppu.read_ly(),
+            swapped as u8,
+            (swapped && self.count == WHOLE) as u8,
+            0,
+            count[0],
+            count[1],
+        ]);
+        if swapped {
+            self.count = 0;
+        }
+    }
+
+    fn write_register(&mut self, address: u16, value: u8) -> u8 {
+        let ppu = &mut self.ppu;
+        match address {
+            0xFF40 => {
+                let blanks = ppu.read_lcd_control() & 0x80 != 0 && value & 0x80 == 0;
+                ppu.write_lcd_control(value);
+                if blanks {
+                    self.count = 0;
+                }
+            }
+            0xFF41 => ppu.write_lcd_status(value),
+            0xFF42 => ppu.write_scroll_y(value),
+            0xFF43 => ppu.write_scroll_x(value),
+            0xFF45 => ppu.write_lyc(value),
+            0xFF47 => ppu.write_dmg_bg_palette(value),
+            0xFF48 => ppu.write_dmg_sprite_palettes(0, value),
+            0xFF49 => ppu.write_dmg_sprite_palettes(1, value),
+            0xFF4A => ppu.write_window_y(value),
+            0xFF4B => ppu.write_window_x(value),
+            0xFF4F => ppu.write_vram_bank(value),
+            0xFF68 => ppu.write_cgb_bg_palettes_index(value),
+            0xFF69 => ppu.write_cgb_bg_palettes_data(value),
+            0xFF6A => ppu.write_cgb_sprite_palettes_index(value),
+            0xFF6B => ppu.write_cgb_sprite_palettes_data(value),
+            0xFF6C => ppu.write_sprite_priority_mode(value),
+            _ => return REFUSED_ADDRESS,
+        }
+        0
+    }
+
+    fn read_register(&self, address: u16) -> Option<u8> {
+        match address {
+            0xFF68 => Some(self.ppu.read_cgb_bg_palettes_index()),
+            0xFF69 => Some(self.ppu.read_cgb_bg_palettes_data()),
+            0xFF6A => Some(self.ppu.read_cgb_sprite_palettes_index()),
+            0xFF6B => Some(self.ppu.read_cgb_sprite_palettes_data()),
+            _ => None,
+        }
+    }
+
+    fn corrupt(&mut self, op: u8) -> u8 {
+        let cycle = self.ppu.look_cycle();
+        if self.ppu.get_current_mode() == 2 && (cycle < 4 || cycle > 83) {
+            return REFUSED_CORRUPTION;
+        }
+        match op {
+            8 => self.ppu.oam_bug_write(),
+            9 => self.ppu.oam_bug_read(),
+            _ => self.ppu.oam_bug_read_write(),
+        }
+        0
+    }
+}
+
+/// Counts over a list of calls, and the rule that every state is in order.
+pub struct Check {
+    machine: Machine,
+    calls: u64,
+    ops: [u64; 16],
+    refusals: [u64; 6],
+    requests: [u64; 4],
+    swaps: u64,
+    whole: u64,
+    blankings: u64,
+    largest_count: u16,
+    unended_lines: u64,
+    window_entries: u64,
+    waiting: u64,
+    background_lengths: [u64; 17],
+    sprite_lengths: [u64; 9],
+    disorder: Option<(u64, &'static str)>,
+}
+
+impl Check {
+    pub fn new() -> Self {
+        Check {
+            machine: Machine::new(),
+            calls: 0,
+            ops: [0; 16],
+            refusals: [0; 6],
+            requests: [0; 4],
+            swaps: 0,
+            whole: 0,
+            blankings: 0,
+            largest_count: 0,
+            unended_lines: 0,
+            window_entries: 0,
+            waiting: 0,
+            background_lengths: [0; 17],
+            sprite_lengths: [0; 9],
+            disorder: None,
+        }
+    }
+
+    pub fn take(&mut self, request: [u8; 8]) {
+        let ppu = &self.machine.ppu;
+        let was_on = ppu.read_lcd_control() & 0x80 != 0;
+        let was_in_window = ppu.look_in_window();
+        let line = ppu.look_line();
+        let answer = self.machine.answer(request);
+        let ppu = &self.machine.ppu;
+
+        self.calls += 1;
+        self.ops[request[0] as usize & 15] += 1;
+        if answer[0] < 6 {
+            self.refusals[answer[0] as usize] += 1;
+        }
+        if request[0] == 2 && answer[0] == 0 {
+            self.requests[answer[1] as usize & 3] += 1;
+            self.swaps += answer[5] as u64;
+            self.whole += answer[6] as u64;
+            let count = u16::from_le_bytes([answer[8], answer[9]]);
+            self.largest_count = self.largest_count.max(count);
+            self.window_entries += (!was_in_window && ppu.look_in_window()) as u64;
+            let left_line = ppu.look_line() != line;
+            self.unended_lines += (left_line && ppu.get_current_mode() == 3) as u64;
+        }
+        let is_on = ppu.read_lcd_control() & 0x80 != 0;
+        self.blankings += (request[0] == 3 && was_on && !is_on) as u64;
+        let (waiting, background, sprite) = ppu.look_queues();
+        self.waiting += waiting as u64;
+        self.background_lengths[background] += 1;
+        self.sprite_lengths[sprite] += 1;
+        if self.disorder.is_none() {
+            let calls = self.calls;
+            self.disorder = ppu.look_disorder().map(|rule| (calls, rule));
+        }
+    }
+
+    pub fn print(&self, out: &mut dyn Write) -> io::Result<i32> {
+        writeln!(out, "calls {}", self.calls)?;
+        writeln!(out, "calls by op 0 to 15 {:?}", self.ops)?;
+        writeln!(out, "answers by number 0 to 5 {:?}", self.refusals)?;
+        writeln!(
+            out,
+            "steps by request: none {}, VBlank {}, STAT {}, both {}",
+            self.requests[0], self.requests[1], self.requests[2], self.requests[3]
+        )?;
+        writeln!(
+            out,
+            "swaps {}, with the whole mark {}, blankings {}, largest count {}",
+            self.swaps, self.whole, self.blankings, self.largest_count
+        )?;
+        writeln!(
+            out,
+            "window entries {}, lines left in mode 3 {}",
+            self.window_entries, self.unended_lines
+        )?;
+        writeln!(
+            out,
+            "after a call: a fetched row waits {}; by background queue length {:?}; by sprite queue length {:?}",
+            self.waiting, self.background_lengths, self.sprite_lengths
+        )?;
+        match self.disorder {
+            None => writeln!(out, "every state in order")?,
+            Some((call, rule)) => writeln!(out, "after call {} not in order: {}", call, rule)?,
+        }
+        out.flush()?;
+        Ok(self.disorder.is_some() as i32)
+    }
+}
