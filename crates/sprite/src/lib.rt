@@ -168,7 +168,8 @@ pub struct Picked {
     pub selection: Selection,
 }
 
-fn blank() -> [SelectedSprite; 10]
+// Ten slots of nothing.
+pub fn blank() -> [SelectedSprite; 10]
     ensures { λ r. ⌜ r ≡ blankSlots ⌝ }
 {
     let nothing = Sprite {
