@@ -1,4 +1,4 @@
--- 01's examples P1 to P10: what each says of the definitions that the functions are proved to compute.
+-- 01's examples P1 to P11: what each says of the definitions that the functions are proved to compute.
 use Prim.Native.Nat.{ℕ}
 use mathlib.Core.Path.{_≡_}
 use mathlib.Core.Bool.{true, false}
@@ -10,9 +10,12 @@ use Rattle.colors.specs.Shade.{shade}
 use Rattle.colors.specs.Palettes.{freshSet, indexWritten, dataWritten}
 use Rattle.colors.specs.declared.Color.{Color}
 use Rattle.lcd.specs.Mix.{mix, bytesOf}
+use Rattle.state.specs.declared.Registers.{Registers}
+use Rattle.registers.specs.Write.{kept, registersWritten}
+use Rattle.oam_bug.specs.Corruption.{writeWord, readWord}
 
 pub data Example : Type 0 where
-  P1 P2 P3 P4 P5 P6 P7 P8 P10 : Example
+  P1 P2 P3 P4 P5 P6 P7 P8 P9 P10 P11 : Example
 
 abbrev pub colour : ℕ → ℕ → ℕ → Color
 colour r g b = record { r = r; g = g; b = b }
@@ -40,5 +43,9 @@ says P7 =
 says P8 =
     (v : ℕ) →
     (dataWritten (indexWritten freshSet 0xBF) v .index ≡ 0) × (dataWritten (indexWritten freshSet 0x3F) v .index ≡ 63)
+-- STAT 03, write FF: 7B
+says P9 = (r : Registers) → r .stat ≡ 3 → registersWritten r 0xFF41 (kept 0xFF41 0xFF) .stat ≡ 0x7B
 -- BGP FC: colours 0,1,2,3 become 0,3,3,3
 says P10 = (shade 0xFC 0 ≡ 0) × (shade 0xFC 1 ≡ 3) × (shade 0xFC 2 ≡ 3) × (shade 0xFC 3 ≡ 3)
+-- a 00FF, b 0F0F, c 3333: write 033F, read 0F3F
+says P11 = (writeWord 0x00FF 0x0F0F 0x3333 ≡ 0x033F) × (readWord 0x00FF 0x0F0F 0x3333 ≡ 0x0F3F)

@@ -1,0 +1,2 @@
+-- What the contracts of `beam` cite.
+pub mod Advance

@@ -1,0 +1,2 @@
+-- What the contracts of `burst` cite.
+pub mod Burst

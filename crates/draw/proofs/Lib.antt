@@ -1,0 +1,3 @@
+-- The laws of `draw` that belong to no one function.
+pub mod Keeps
+pub mod Order

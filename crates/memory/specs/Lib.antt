@@ -1,0 +1,3 @@
+-- What the contracts of `memory` cite.
+pub mod Fresh
+pub mod Writes

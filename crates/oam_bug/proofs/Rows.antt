@@ -1,0 +1,149 @@
+-- Laws of the corruptions: OAM keeps its length, a row holds the words stored in it, and bytes outside it stay.
+use mathlib.Core.Path.{_≡_, refl, _∙_}
+use mathlib.Core.Bool.{Bool, true, false, cond, _||_}
+use mathlib.Core.List.{List}
+use mathlib.Core.Logic.{_≢_}
+use Prim.Native.Nat.{ℕ, _+_, _-_, _*_, _/_, _%_, _<_, _≤_}
+use native.Mathlib.Nat.{div-add-mod'}
+use native.Mathlib.Omega.{arith}
+use borrow.Author.Tests.{eqb-true}
+use lib.Dec.{eqb, ltb}
+use lib.ListN.{length, getD, set, length-set}
+use lib.Seq.{getD-set-same, getD-set-other}
+use Rattle.oam_bug.specs.Words.{oamBytes, oamRows, word, withWord, place, wordOf, withRow, rowFrom, rowCopied}
+use Rattle.oam_bug.specs.Corruption.{rowAt, writeCorrupted, readCorrupted, beforeCorrupted, spread, aroundCorrupted, readWriteCorrupted}
+
+-- ---- the row is one of the twenty
+
+pub row-below : (mode cycle : ℕ) → (mode ≡ 2 → (4 ≤ cycle) × (cycle ≤ 83)) → rowAt mode cycle < oamRows
+row-below mode cycle h = by-test (eqb mode 2) (λ e. h (eqb-true mode 2 e))
+  where
+    by-test : (b : Bool) → (b ≡ true → (4 ≤ cycle) × (cycle ≤ 83)) → cond b ((cycle - 4) / 4) 0 < oamRows
+    by-test true k = let b = k refl in omega arith
+    by-test false k = omega arith
+
+-- ---- length
+
+pub length-with-word : (l : List ℕ) (i w : ℕ) → length (withWord l i w) ≡ length l
+length-with-word l i w = simp length-set
+
+pub length-with-row : (l : List ℕ) (r a b c d : ℕ) → length (withRow l r a b c d) ≡ length l
+unfolding withRow
+length-with-row l r a b c d = simp length-set
+
+pub length-row-from : (l : List ℕ) (r first : ℕ) → length (rowFrom l r first) ≡ length l
+unfolding rowFrom
+length-row-from l r first = rw length-with-row
+
+pub length-row-copied : (l : List ℕ) (p r : ℕ) → length (rowCopied l p r) ≡ length l
+unfolding rowCopied
+length-row-copied l p r = rw length-with-row
+
+-- a test between two lists as long as a third
+either-length : (b : Bool) (l x y : List ℕ) → length x ≡ length l → length y ≡ length l → length (cond b x y) ≡ length l
+either-length true l x y p q = p
+either-length false l x y p q = q
+
+pub length-write : (l : List ℕ) (r : ℕ) → length (writeCorrupted l r) ≡ length l
+unfolding writeCorrupted
+length-write l r = either-length (eqb r 0) l _ _ refl (length-row-from l r _)
+
+pub length-read : (l : List ℕ) (r : ℕ) → length (readCorrupted l r) ≡ length l
+unfolding readCorrupted
+length-read l r = either-length (eqb r 0) l _ _ refl (length-row-from l r _)
+
+pub length-around : (l : List ℕ) (r : ℕ) → length (aroundCorrupted l r) ≡ length l
+unfolding aroundCorrupted spread beforeCorrupted
+length-around l r =
+    either-length (ltb r 4 || ltb 18 r) l _ _ refl (simp (length-row-copied, length-set))
+
+pub length-read-write : (l : List ℕ) (r : ℕ) → length (readWriteCorrupted l r) ≡ length l
+length-read-write l r = length-read (aroundCorrupted l r) r ∙ length-around l r
+
+-- ---- the words of a row after a store, and the bytes outside
+
+-- a word stored is read back
+pub word-same : (l : List ℕ) (i w : ℕ) → i + 1 < length l → word (withWord l i w) i ≡ w
+word-same l i w h =
+    let low : getD (set (set l i (w % 256)) (i + 1) (w / 256)) i 0 ≡ w % 256
+    = getD-set-other (set l i (w % 256)) (i + 1) i (w / 256) 0 (λ e. omega arith) ∙ getD-set-same l i (w % 256) 0 (omega arith) in
+    let high : getD (set (set l i (w % 256)) (i + 1) (w / 256)) (i + 1) 0 ≡ w / 256
+    = getD-set-same (set l i (w % 256)) (i + 1) (w / 256) 0 (rw length-set h) in
+    rw (low, high) (omega (arith, div-add-mod' w 256))
+
+-- another byte stays
+pub byte-other : (l : List ℕ) (i w j : ℕ) → j ≢ i → j ≢ i + 1 → getD (withWord l i w) j 0 ≡ getD l j 0
+byte-other l i w j p q = getD-set-other (set l i (w % 256)) (i + 1) j (w / 256) 0 q ∙ getD-set-other l i j (w % 256) 0 p
+
+-- a word before it stays
+pub word-before : (l : List ℕ) (i w j : ℕ) → j + 1 < i → word (withWord l i w) j ≡ word l j
+word-before l i w j h =
+    rw (byte-other l i w j (λ e. omega arith) (λ e. omega arith), byte-other l i w (j + 1) (λ e. omega arith) (λ e. omega arith))
+
+-- a row holds these four words
+pub record Row (l : List ℕ) (r a b c d : ℕ) : Type 0 where
+  pub first : wordOf l r 0 ≡ a
+  pub second : wordOf l r 1 ≡ b
+  pub third : wordOf l r 2 ≡ c
+  pub fourth : wordOf l r 3 ≡ d
+
+module _ (l : List ℕ) (r a b c d : ℕ) where
+  -- after one, two and three of the four words
+  abbrev one : List ℕ
+  one = withWord l (place r 0) a
+
+  abbrev two : List ℕ
+  two = withWord one (place r 1) b
+
+  abbrev three : List ℕ
+  three = withWord two (place r 2) c
+
+  -- a row stored holds the words stored
+  pub row-stored : place r 3 + 1 < length l → Row (withRow l r a b c d) r a b c d
+  unfolding withRow
+  row-stored h =
+      record {
+        first = word-before three (place r 3) d (place r 0) (omega arith)
+            ∙ word-before two (place r 2) c (place r 0) (omega arith)
+            ∙ word-before one (place r 1) b (place r 0) (omega arith)
+            ∙ word-same l (place r 0) a (omega arith);
+        second = word-before three (place r 3) d (place r 1) (omega arith)
+            ∙ word-before two (place r 2) c (place r 1) (omega arith)
+            ∙ word-same one (place r 1) b (simp length-set (omega arith));
+        third = word-before three (place r 3) d (place r 2) (omega arith)
+            ∙ word-same two (place r 2) c (simp length-set (omega arith));
+        fourth = word-same three (place r 3) d (simp length-set (omega arith));
+      }
+
+  -- a byte outside the row stays
+  pub byte-outside : (j : ℕ) → (place r 0 ≤ j → j ≤ place r 3 + 1 → ⊥) → getD (withRow l r a b c d) j 0 ≡ getD l j 0
+  unfolding withRow
+  byte-outside j h =
+      byte-other three (place r 3) d j (λ e. h (omega arith) (omega arith)) (λ e. h (omega arith) (omega arith))
+      ∙ byte-other two (place r 2) c j (λ e. h (omega arith) (omega arith)) (λ e. h (omega arith) (omega arith))
+      ∙ byte-other one (place r 1) b j (λ e. h (omega arith) (omega arith)) (λ e. h (omega arith) (omega arith))
+      ∙ byte-other l (place r 0) a j (λ e. h (omega arith) (omega arith)) (λ e. h (omega arith) (omega arith))
+
+-- a corrupted row holds its first word and the other three of the row before, and nothing else changes
+pub row-from-holds : (l : List ℕ) (r first : ℕ) → place r 3 + 1 < length l
+    → Row (rowFrom l r first) r first (wordOf l (r - 1) 1) (wordOf l (r - 1) 2) (wordOf l (r - 1) 3)
+unfolding rowFrom
+row-from-holds l r first h = row-stored l r first _ _ _ h
+
+pub row-from-outside : (l : List ℕ) (r first j : ℕ) → (place r 0 ≤ j → j ≤ place r 3 + 1 → ⊥)
+    → getD (rowFrom l r first) j 0 ≡ getD l j 0
+unfolding rowFrom
+row-from-outside l r first j h = byte-outside l r first _ _ _ j h
+
+-- row 0 is never corrupted
+pub write-none : (l : List ℕ) → writeCorrupted l 0 ≡ l
+unfolding writeCorrupted
+write-none l = refl
+
+pub read-none : (l : List ℕ) → readCorrupted l 0 ≡ l
+unfolding readCorrupted
+read-none l = refl
+
+pub read-write-none : (l : List ℕ) → readWriteCorrupted l 0 ≡ l
+unfolding readCorrupted aroundCorrupted
+read-write-none l = refl

@@ -1,0 +1,3 @@
+-- What the contracts of `oam_bug` cite.
+pub mod Words
+pub mod Corruption

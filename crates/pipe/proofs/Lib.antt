@@ -1,0 +1,2 @@
+-- The laws of `pipe` that belong to no one function.
+pub mod Sound

@@ -1,0 +1,32 @@
+-- `pipe::feed` meets its contract.
+use mathlib.Core.Path.{_≡_, sym, _∙_}
+use borrow.Author.Tests.{eq-eqb, ne-eqb, lt-ltb, le-ltb, le-leb, lt-leb, not-true, not-false}
+use Rattle.pipe.specs.Fetching.{fed}
+use borrow.Author.Needs.{needs}
+use Rattle.pipe.proofs.feed.Statement.{statement}
+use Rattle.pipe.proofs.feed.Tie as tie
+
+returns : tie.Need-returns
+unfolding fed
+returns c = rw (lt-leb _ _ (c .if1 .taken))
+
+enum-known-waiting : tie.Need-enum-known-waiting
+enum-known-waiting c = search needs
+
+enum-told : tie.Need-enum-told
+enum-told c = search needs
+
+returns-2 : tie.Need-returns-2
+unfolding fed
+returns-2 c = rw (le-leb _ _ (c .before .before .before .if1 .left), c .enum-told .given .1)
+
+push-row-requires : tie.Need-push-row-requires
+push-row-requires c κs = search needs
+
+returns-3 : tie.Need-returns-3
+unfolding fed
+returns-3 c = rw (c .push-row .ensures, le-leb _ _ (c .before .before .before .before .before .if1 .left), c .before .before .waiting .given .1)
+
+pub feed-spec : {M : Type 1} → statement M
+feed-spec =
+    tie.close (tie.spec returns enum-known-waiting enum-told returns-2 push-row-requires returns-3)

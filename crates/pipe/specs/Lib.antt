@@ -1,0 +1,3 @@
+-- What the contracts of `pipe` cite.
+pub mod Window
+pub mod Fetching

@@ -1,0 +1,2 @@
+-- The laws of `pixel` that belong to no one function.
+pub mod Added

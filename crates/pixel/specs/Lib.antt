@@ -1,0 +1,3 @@
+-- What the contracts of `pixel` cite.
+pub mod Sprites
+pub mod Mixer

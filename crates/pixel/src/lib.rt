@@ -1,0 +1,163 @@
+// One pixel: the sprites that start at a place, and the mixer of background and sprite.
+ghost use mathlib.Core.Path.{_≡_};
+ghost use Prim.Native.Nat.{_<_, _≤_};
+ghost use lib.ListN.{length};
+ghost use Rattle.pixel.specs.Sprites.{heightOf, selector, inkOf, spriteAdded, spritesAdded};
+ghost use Rattle.pixel.specs.Mixer.{wins, passed, bgColour, spriteColour, seen, Coloured};
+use colors::Color;
+use colors::PaletteSet;
+use fifo::BgFifoPixel;
+use fifo::SpriteFifo;
+use fifo::SpriteFifoPixel;
+use fifo::SpritePop;
+use sprite::SelectedSprite;
+use sprite::Selection;
+use state::Registers;
+use state::Spot;
+
+// The height of sprites.
+pub fn height_of(lcdc: u8) -> u8
+    ensures { λ r. ⌜ r ≡ heightOf lcdc ⌝ }
+{
+    if wrap::bit(lcdc, 2) { 16 } else { 8 }
+}
+
+// Which of the eight sprite palettes a sprite has.
+fn selector_of(colour: bool, s: SelectedSprite) -> u8
+    ensures { λ r. ⌜ r ≡ selector colour (s .sprite .flags) ⌝ }
+{
+    let sprite = s.sprite;
+    if colour {
+        sprite.cgb_palette()
+    } else {
+        sprite.dmg_palette()
+    }
+}
+
+// What every pixel of a sprite has but its colour.
+fn ink_of(r: Registers, palettes: PaletteSet, s: SelectedSprite) -> SpriteFifoPixel
+    ensures { λ p. ⌜ p ≡ inkOf r (palettes .bytes) s ⌝ }
+{
+    let sprite = s.sprite;
+    let palette = palettes.get_palette(selector_of(r.colour, s));
+    SpriteFifoPixel {
+        color: 0,
+        palette,
+        dmg: sprite.dmg_palette(),
+        index: s.index,
+        priority: sprite.bg_priority(),
+    }
+}
+
+// The sprite queue after a selected sprite, which is laid into it if it starts at the place.
+pub fn add_sprite(
+    vram: &[u8],
+    r: Registers,
+    palettes: PaletteSet,
+    at: Spot,
+    q: SpriteFifo,
+    s: SelectedSprite,
+) -> SpriteFifo
+    requires { ⌜ (length (now vram) ≡ 16384) × (q .len ≤ 8) ⌝ }
+    ensures { λ n. ⌜ n ≡ spriteAdded (now (vram .entry)) r (palettes .bytes) at q s ⌝ }
+{
+    if !tiles::starts_at(s.sprite, at.x) {
+        return q;
+    }
+    let colors = tiles::sprite_colors(vram, s.sprite, at.line, height_of(r.lcdc), at.x);
+    let ink = ink_of(r, palettes, s);
+    q.push(colors, ink, r.coord)
+}
+
+// The sprite queue after the selected sprites that start at the place, if sprites are drawn.
+pub fn add_sprites(
+    vram: &[u8],
+    r: Registers,
+    palettes: PaletteSet,
+    l: Selection,
+    at: Spot,
+    q: SpriteFifo,
+) -> SpriteFifo
+    requires { ⌜ (length (now vram) ≡ 16384) × (q .len ≤ 8) × (l .count ≤ 10) ⌝ }
+    ensures { λ n. ⌜ n ≡ spritesAdded (now (vram .entry)) r (palettes .bytes) l at q ⌝ }
+{
+    if !wrap::bit(r.lcdc, 1) {
+        return q;
+    }
+    let count = l.count as usize;
+    let slots = l.slots;
+    let mut queue = q;
+    let mut k = 0;
+    while k < count {
+        let slot = slots[k];
+        let next = add_sprite(vram, r, palettes, at, queue, slot);
+        queue = next;
+        k += 1;
+    }
+    queue
+}
+
+// Whether a sprite pixel is seen in front of a background pixel.
+pub fn sprite_wins(r: Registers, b: BgFifoPixel, s: SpriteFifoPixel) -> bool
+    ensures { λ w. ⌜ w ≡ wins r b s ⌝ }
+{
+    if s.color == 0 {
+        return false;
+    }
+    if r.colour {
+        if !wrap::bit(r.lcdc, 0) {
+            return true;
+        }
+    }
+    if b.color == 0 {
+        return true;
+    }
+    if b.priority {
+        return false;
+    }
+    !s.priority
+}
+
+// A colour, passed by a palette byte outside colour mode.
+fn pass(r: Registers, byte: u8, color: u8) -> u8
+    requires { ⌜ color < 4 ⌝ }
+    ensures { λ c. ⌜ c ≡ passed r byte color ⌝ }
+{
+    if r.colour {
+        return color;
+    }
+    colors::shade_of(byte, color)
+}
+
+fn bg_color(r: Registers, b: BgFifoPixel) -> Color
+    requires { ⌜ b .color < 4 ⌝ }
+    ensures { λ c. ⌜ c ≡ bgColour r b ⌝ }
+{
+    let palette = b.palette;
+    palette.get_color(pass(r, r.bgp, b.color))
+}
+
+fn sprite_color(r: Registers, s: SpriteFifoPixel) -> Color
+    requires { ⌜ s .color < 4 ⌝ }
+    ensures { λ c. ⌜ c ≡ spriteColour r s ⌝ }
+{
+    let palette = s.palette;
+    if s.dmg == 0 {
+        return palette.get_color(pass(r, r.obp0, s.color));
+    }
+    palette.get_color(pass(r, r.obp1, s.color))
+}
+
+// The mixer: what is seen of a background pixel and a pop of the sprite queue, which falls back to the background.
+pub fn mixer(r: Registers, b: BgFifoPixel, pop: SpritePop) -> Color
+    requires { ⌜ (b .color < 4) × Coloured pop ⌝ }
+    ensures { λ c. ⌜ c ≡ seen r b pop ⌝ }
+{
+    let SpritePop::Pixel(s) = pop else {
+        return bg_color(r, b);
+    };
+    if sprite_wins(r, b, s) {
+        return sprite_color(r, s);
+    }
+    bg_color(r, b)
+}

@@ -1,0 +1,3 @@
+-- What the contracts of `registers` cite.
+pub mod Registers
+pub mod Write

@@ -1,0 +1,27 @@
+-- `tiles::sprite_colors` meets its contract.
+use borrow.Author.Needs.{needs}
+use Rattle.tiles.specs.Objects.{spriteColours}
+use Rattle.tiles.proofs.sprite_colors.Statement.{statement}
+use Rattle.tiles.proofs.sprite_colors.Tie as tie
+
+sprite-row-requires : tie.Need-sprite-row-requires
+sprite-row-requires c κs = search needs
+
+starts-left-requires : tie.Need-starts-left-requires
+starts-left-requires c κs = search needs
+
+move-left-requires : tie.Need-move-left-requires
+move-left-requires c κs = search needs
+
+returns : tie.Need-returns
+unfolding spriteColours
+returns c = rw (← c .before .before .starts-left .ensures, c .before .if1 .taken, c .move-left .ensures, c .before .before .before .sprite-row .ensures)
+
+returns-2 : tie.Need-returns-2
+unfolding spriteColours
+returns-2 c = rw (← c .before .starts-left .ensures, c .if1 .left, c .before .before .sprite-row .ensures)
+
+pub sprite-colors-spec : {M : Type 1} → statement M
+sprite-colors-spec =
+    tie.close
+    (tie.spec sprite-row-requires starts-left-requires move-left-requires returns returns-2)

@@ -1,0 +1,4 @@
+-- What the contracts of `tiles` cite.
+pub mod Tile
+pub mod Map
+pub mod Objects

@@ -1,0 +1,250 @@
+// Tile rows out of VRAM: the background's by the map, and the sprites'.
+ghost use mathlib.Core.Path.{_≡_};
+ghost use mathlib.Core.List.{reverse};
+ghost use Prim.Native.Nat.{_<_, _≤_};
+ghost use lib.ListN.{length};
+ghost use Rattle.tiles.specs.Tile.{byteAt, colourIn, rowOf, tileRow, mirrored, tileAddress};
+ghost use Rattle.tiles.specs.Map.{mapAddress, tileLine, pattern, fetchTile, blanked, noTile, fetchBg};
+ghost use Rattle.tiles.specs.Objects.{spriteLine, firstTile, spriteRow, startsLeft, startsAt, spriteColours};
+use bg_attribs::BgAttribute;
+use sprite::Sprite;
+
+// The byte of a bank at an address, modulo 8192.
+pub fn read_vram(vram: &[u8], bank: u8, addr: u16) -> u8
+    requires { ⌜ (length (now vram) ≡ 16384) × (bank ≤ 1) ⌝ }
+    ensures { λ r. ⌜ r ≡ byteAt (now (vram .entry)) bank addr ⌝ }
+{
+    vram[8192 * bank as usize + (addr % 8192) as usize]
+}
+
+// The colour in bit n of a row.
+fn color_in(low: u8, high: u8, n: u8) -> u8
+    requires { ⌜ n < 8 ⌝ }
+    ensures { λ r. ⌜ r ≡ colourIn low high n ⌝ }
+{
+    wrap::digit(low, n) + 2 * wrap::digit(high, n)
+}
+
+// The eight colours of a row, leftmost first, from its two bytes.
+pub fn row_of(low: u8, high: u8) -> [u8; 8]
+    ensures { λ r. ⌜ r ≡ rowOf low high ⌝ }
+{
+    [
+        color_in(low, high, 7),
+        color_in(low, high, 6),
+        color_in(low, high, 5),
+        color_in(low, high, 4),
+        color_in(low, high, 3),
+        color_in(low, high, 2),
+        color_in(low, high, 1),
+        color_in(low, high, 0),
+    ]
+}
+
+// The row whose two bytes are at an address and the one after it, each modulo 8192.
+pub fn tile_row(vram: &[u8], bank: u8, addr: u16) -> [u8; 8]
+    requires { ⌜ (length (now vram) ≡ 16384) × (bank ≤ 1) ⌝ }
+    ensures { λ r. ⌜ r ≡ tileRow (now (vram .entry)) bank addr ⌝ }
+{
+    let at = addr % 8192;
+    let low = read_vram(vram, bank, at);
+    let high = read_vram(vram, bank, at + 1);
+    row_of(low, high)
+}
+
+// A row from right to left.
+pub fn reversed(row: [u8; 8]) -> [u8; 8]
+    ensures { λ r. ⌜ r ≡ reverse row ⌝ }
+{
+    [
+        row[7],
+        row[6],
+        row[5],
+        row[4],
+        row[3],
+        row[2],
+        row[1],
+        row[0],
+    ]
+}
+
+// A row, mirrored on an x flip.
+pub fn mirror(flip: bool, row: [u8; 8]) -> [u8; 8]
+    ensures { λ r. ⌜ r ≡ mirrored flip row ⌝ }
+{
+    if flip { reversed(row) } else { row }
+}
+
+// Where a map holds the tile of a row of places and a column of tiles.
+pub fn map_address(high: bool, row: u8, column: u8) -> u16
+    ensures { λ r. ⌜ r ≡ mapAddress high row column ⌝ }
+{
+    let place = 32 * (row / 8) as u16 + column as u16;
+    if high { 0x9C00 + place } else { 0x9800 + place }
+}
+
+// Where a background tile begins, its number signed when LCDC bit 4 is clear.
+pub fn tile_address(lcdc: u8, tile: u8) -> u16
+    ensures { λ r. ⌜ r ≡ tileAddress lcdc tile ⌝ }
+{
+    let place = 16 * tile as u16;
+    if wrap::bit(lcdc, 4) {
+        return 0x8000 + place;
+    }
+    if tile < 128 {
+        0x9000 + place
+    } else {
+        0x8000 + place
+    }
+}
+
+// Which of a tile's rows a row of the map meets.
+pub fn tile_line(flip: bool, row: u8) -> u8
+    ensures { λ r. ⌜ r ≡ tileLine flip row ⌝ }
+{
+    if flip { 7 - row % 8 } else { row % 8 }
+}
+
+// The colours of a tile by its number, its attribute and the row of the map.
+pub fn pattern_of(vram: &[u8], lcdc: u8, tile: u8, attribute: BgAttribute, row: u8) -> [u8; 8]
+    requires { ⌜ length (now vram) ≡ 16384 ⌝ }
+    ensures { λ r. ⌜ r ≡ pattern (now (vram .entry)) lcdc tile (attribute .bits) row ⌝ }
+{
+    let line = tile_line(attribute.is_vertical_flip(), row);
+    let at = tile_address(lcdc, tile) + 2 * line as u16;
+    let colors = tile_row(vram, attribute.bank(), at);
+    mirror(attribute.is_horizontal_flip(), colors)
+}
+
+// What a fetch gives: eight colours and the tile's attribute.
+pub struct Fetched {
+    pub row: [u8; 8],
+    pub attribute: BgAttribute,
+}
+
+// The tile row of a map at a row of places and a column of tiles.
+pub fn fetch_tile(vram: &[u8], lcdc: u8, high: bool, row: u8, column: u8) -> Fetched
+    requires { ⌜ length (now vram) ≡ 16384 ⌝ }
+    ensures { λ r. ⌜ r ≡ fetchTile (now (vram .entry)) lcdc high row column ⌝ }
+{
+    let place = map_address(high, row, column);
+    let tile = read_vram(vram, 0, place);
+    let attribute = BgAttribute::new(read_vram(vram, 1, place));
+    let colors = pattern_of(vram, lcdc, tile, attribute, row);
+    Fetched {
+        row: colors,
+        attribute,
+    }
+}
+
+// What a fetch depends on besides VRAM: colour mode, LCDC, whether it is in the window, the scroll registers, the line,
+// the window's row and the fetch column.
+pub struct Fetch {
+    pub colour: bool,
+    pub lcdc: u8,
+    pub window: bool,
+    pub scx: u8,
+    pub scy: u8,
+    pub line: u8,
+    pub wrow: u8,
+    pub column: u8,
+}
+
+// Whether the background is taken away.
+fn is_blanked(colour: bool, lcdc: u8) -> bool
+    ensures { λ r. ⌜ r ≡ blanked colour lcdc ⌝ }
+{
+    if colour {
+        return false;
+    }
+    !wrap::bit(lcdc, 0)
+}
+
+fn no_tile() -> Fetched
+    ensures { λ r. ⌜ r ≡ noTile ⌝ }
+{
+    Fetched {
+        row: [0; 8],
+        attribute: BgAttribute { bits: 0 },
+    }
+}
+
+// The tile row of a fetch, in the window or scrolled; eight 0s outside colour mode with LCDC bit 0 clear.
+pub fn fetch_bg(vram: &[u8], f: Fetch) -> Fetched
+    requires { ⌜ length (now vram) ≡ 16384 ⌝ }
+    ensures { λ r. ⌜ r ≡ fetchBg (now (vram .entry)) f ⌝ }
+{
+    if is_blanked(f.colour, f.lcdc) {
+        return no_tile();
+    }
+    if f.window {
+        return fetch_tile(vram, f.lcdc, wrap::bit(f.lcdc, 6), f.wrow, f.column);
+    }
+    let row = (f.line as u16 + f.scy as u16) % 256;
+    let column = (f.scx / 8 + f.column % 32) % 32;
+    fetch_tile(vram, f.lcdc, wrap::bit(f.lcdc, 3), row as u8, column)
+}
+
+// The row of a sprite at y in a line.
+pub fn sprite_line(y: u8, line: u8, height: u8, flip: bool) -> u8
+    requires { ⌜ 0 < height ⌝ }
+    ensures { λ r. ⌜ r ≡ spriteLine y line height flip ⌝ }
+{
+    let row = wrap::wrapping_sub(line, wrap::wrapping_sub(y, 16));
+    if flip {
+        wrap::wrapping_sub(height - 1, row) % height
+    } else {
+        row
+    }
+}
+
+// The tile of a sprite's first row.
+pub fn first_tile(tile: u8, height: u8) -> u8
+    ensures { λ r. ⌜ r ≡ firstTile tile height ⌝ }
+{
+    if height == 16 { tile / 2 * 2 } else { tile }
+}
+
+// The eight colours of a sprite in a line.
+pub fn sprite_row(vram: &[u8], sprite: Sprite, line: u8, height: u8) -> [u8; 8]
+    requires { ⌜ (length (now vram) ≡ 16384) × (0 < height) ⌝ }
+    ensures { λ r. ⌜ r ≡ spriteRow (now (vram .entry)) sprite line height ⌝ }
+{
+    let row = sprite_line(sprite.y, line, height, sprite.y_flipped());
+    let tile = first_tile(sprite.tile, height);
+    let at = 16 * tile as u16 + 2 * row as u16;
+    let colors = tile_row(vram, sprite.bank(), at);
+    mirror(sprite.x_flipped(), colors)
+}
+
+// Whether a sprite that begins left of the screen starts at column x.
+fn starts_left(sprite: Sprite, x: u8) -> bool
+    ensures { λ r. ⌜ r ≡ startsLeft sprite x ⌝ }
+{
+    if x == 0 {
+        return sprite.x < 8;
+    }
+    false
+}
+
+// Whether a sprite starts at column x.
+pub fn starts_at(sprite: Sprite, x: u8) -> bool
+    ensures { λ r. ⌜ r ≡ startsAt sprite x ⌝ }
+{
+    if x == sprite.screen_x() {
+        return true;
+    }
+    starts_left(sprite, x)
+}
+
+// The colours of a sprite that starts at column x: those left of column 0 are gone.
+pub fn sprite_colors(vram: &[u8], sprite: Sprite, line: u8, height: u8, x: u8) -> [u8; 8]
+    requires { ⌜ (length (now vram) ≡ 16384) × (0 < height) ⌝ }
+    ensures { λ r. ⌜ r ≡ spriteColours (now (vram .entry)) sprite line height x ⌝ }
+{
+    let colors = sprite_row(vram, sprite, line, height);
+    if starts_left(sprite, x) {
+        return sprite::move_left(colors, sprite.x);
+    }
+    colors
+}
