@@ -4,7 +4,7 @@ use mathlib.Core.Bool.{Bool, true, not, cond, _&&_}
 use mathlib.Core.Path.{_≡_}
 use mathlib.Core.List.{List}
 use lib.Bits.{bitAnd}
-use lib.Dec.{eqb}
+use lib.Dec.{eqb, leb}
 use lib.ListN.{length, replicate}
 use Rattle.wrap.specs.Wrap.{bitAt}
 use Rattle.colors.specs.Palettes.{indexWritten, dataWritten, indexRead, dataRead}
@@ -86,7 +86,7 @@ pub record RegisterWrite (s : State) (a b : List ℕ) (address value : ℕ) (n :
 
 -- the registers that can be read, and what each reads as
 abbrev pub readable : ℕ → Bool
-readable address = cond (eqb address 0xFF68) true (cond (eqb address 0xFF69) true (cond (eqb address 0xFF6A) true (eqb address 0xFF6B)))
+readable address = leb 0xFF68 address && leb address 0xFF6B
 
 unfoldable pub registerRead : Palettes → ℕ → ℕ
 registerRead p address =

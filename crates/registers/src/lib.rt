@@ -3,7 +3,7 @@ ghost use mathlib.Core.Path.{_≡_};
 ghost use mathlib.Core.Bool.{cond, true};
 ghost use Prim.Native.Nat.{_<_, _≤_, _+_, _%_};
 ghost use Rattle.registers.specs.Registers.{keptBits};
-ghost use Rattle.registers.specs.Write.{registersWritten, portWritten, palettesWritten, blanks, blankedRegisters, blankedBeam, stateWritten, RegisterWrite, registerRead, colourSet};
+ghost use Rattle.registers.specs.Write.{registersWritten, portWritten, palettesWritten, blanks, blankedRegisters, blankedBeam, stateWritten, RegisterWrite, readable, registerRead, colourSet};
 use colors::PaletteSet;
 use state::Beam;
 use state::Palettes;
@@ -230,6 +230,16 @@ pub fn write_register(s: State, a: &mut [u8], b: &mut [u8], address: u16, value:
         return write_state(s, address, v);
     }
     write_state(s, address, v)
+}
+
+// Whether a register can be read: FF68 to FF6B.
+pub fn is_readable(address: u16) -> bool
+    ensures { λ r. ⌜ r ≡ readable address ⌝ }
+{
+    if address < 0xFF68 {
+        return false;
+    }
+    address <= 0xFF6B
 }
 
 // The value of a readable register.

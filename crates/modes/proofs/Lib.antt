@@ -1,0 +1,2 @@
+-- The laws of `modes` that belong to no one function.
+pub mod Keeps

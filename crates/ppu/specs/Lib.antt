@@ -1,0 +1,3 @@
+-- What the public promises cite.
+pub mod Numbers
+pub mod Calls

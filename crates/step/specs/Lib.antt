@@ -1,0 +1,3 @@
+-- What the contracts of `step` cite.
+pub mod Step
+pub mod Work

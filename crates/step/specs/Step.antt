@@ -1,0 +1,85 @@
+-- 01, "One step": the whole of it, and what it answers.
+use Prim.Native.Nat.{ℕ, _+_}
+use mathlib.Core.Path.{_≡_}
+use mathlib.Core.Bool.{Bool, false, not, cond, _&&_}
+use mathlib.Core.List.{List, []}
+use Rattle.wrap.specs.Wrap.{bitAt}
+use Rattle.lcd.specs.Pictures.{chosen}
+use Rattle.state.specs.With.{modeOf}
+use Rattle.state.specs.declared.State.{State}
+use Rattle.draw.specs.declared.Shot.{Shot}
+use Rattle.modes.specs.Modes.{entered, modeLevel, searched, levelOf, compared, rests}
+use Rattle.burst.specs.Burst.{Burst, burst, allStored}
+use Rattle.beam.specs.Advance.{swaps, advanced, whole}
+use Rattle.step.specs.declared.Report.{Report}
+
+-- LCDC bit 7: the display is on
+abbrev pub lit : State → Bool
+lit s = bitAt (s .regs .lcdc) 7
+
+-- 1 and 2: the mode that begins, the sprites that a line selects, and the draws of the step, none outside mode 3
+unfoldable pub working : ℕ → List ℕ → List ℕ → State → Burst
+working n vram oam s = burst n vram (searched oam (entered s))
+
+-- 2 to 4: the level by the mode held, and what joins it
+unfoldable pub newLevel : ℕ → List ℕ → List ℕ → State → Bool
+newLevel n vram oam s = levelOf (modeLevel (entered s)) (working n vram oam s .state)
+
+-- the state before the cycle advances
+unfoldable pub settled : ℕ → List ℕ → List ℕ → State → State
+settled n vram oam s = compared (newLevel n vram oam s) (working n vram oam s .state)
+
+-- 5: the state after a step; while off a step changes nothing
+unfoldable pub stepped : ℕ → List ℕ → List ℕ → State → State
+stepped n vram oam s = cond (lit s) (advanced n (settled n vram oam s)) s
+
+-- what the draws of a step answered, in order
+unfoldable pub shotsOf : ℕ → List ℕ → List ℕ → State → List Shot
+shotsOf n vram oam s = cond (lit s) (working n vram oam s .shots) []
+
+-- they are stored in the picture that is not shown
+abbrev pub pictureA : ℕ → List ℕ → List ℕ → State → List ℕ → List ℕ
+pictureA n vram oam s a = chosen (s .beam .shown) a (allStored a (shotsOf n vram oam s))
+
+abbrev pub pictureB : ℕ → List ℕ → List ℕ → State → List ℕ → List ℕ
+pictureB n vram oam s b = chosen (s .beam .shown) (allStored b (shotsOf n vram oam s)) b
+
+-- request bits: 1 VBlank at (144,4), 2 STAT if the level rose
+abbrev pub requests : State → State → ℕ
+requests s t = cond (rests (s .beam)) 1 0 + cond (t .beam .level && not (s .beam .level)) 2 0
+
+-- what a step answers, from the states before it, before the cycle advances, and after it: the count is that before a swap
+abbrev pub reportOf : ℕ → State → State → State → Report
+reportOf n s t u =
+    record {
+      requests = requests s t;
+      mode = modeOf (u .regs .stat);
+      coincidence = bitAt (u .regs .stat) 2;
+      ly = u .regs .ly;
+      swapped = swaps n (t .beam);
+      whole = whole n (t .beam);
+      count = t .beam .count;
+    }
+
+abbrev pub offReport : State → Report
+offReport s =
+    record {
+      requests = 0;
+      mode = modeOf (s .regs .stat);
+      coincidence = bitAt (s .regs .stat) 2;
+      ly = s .regs .ly;
+      swapped = false;
+      whole = false;
+      count = s .beam .count;
+    }
+
+unfoldable pub report : ℕ → List ℕ → List ℕ → State → Report
+report n vram oam s =
+    cond (lit s) (reportOf n s (settled n vram oam s) (advanced n (settled n vram oam s))) (offReport s)
+
+-- a step: its answer, the state, and both pictures
+pub record StepTaken (n : ℕ) (vram oam : List ℕ) (s : State) (a b : List ℕ) (r : Report) (u : State) (a′ b′ : List ℕ) : Type 0 where
+  pub answer : r ≡ report n vram oam s
+  pub state : u ≡ stepped n vram oam s
+  pub shownA : a′ ≡ pictureA n vram oam s a
+  pub shownB : b′ ≡ pictureB n vram oam s b

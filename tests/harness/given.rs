@@ -1,0 +1,30 @@
+//! The given picture unit as a library, with what the build appends to its files to set and read every field.
+
+#![allow(dead_code, unused_macros)]
+
+// The given text prints a warning.
+macro_rules! println {
+    ($($words:tt)*) => {
+        ()
+    };
+}
+
+pub mod memory {
+    pub enum InterruptType {
+        Vblank,
+        LcdStat,
+    }
+
+    pub trait InterruptManager {
+        fn request_interrupt(&mut self, interrupt: InterruptType);
+    }
+}
+
+#[derive(Clone, Copy, save_state::Savable)]
+pub struct GameBoyConfig {
+    pub is_dmg: bool,
+}
+
+pub mod list;
+pub mod machine;
+pub mod ppu;

@@ -1,0 +1,126 @@
+//! Holds the parts of the picture unit against the given text: parts [SEED [PART..]]
+//! One line a part; the first difference ends the run with 1.
+
+#[path = "harness/bench.rs"]
+mod bench;
+#[path = "harness/fifo.rs"]
+mod fifo;
+#[path = "harness/lcd.rs"]
+mod lcd;
+#[path = "harness/memory.rs"]
+mod memory;
+#[path = "harness/oam_bug.rs"]
+mod oam_bug;
+#[path = "harness/order.rs"]
+mod order;
+#[path = "harness/pipe.rs"]
+mod pipe;
+#[path = "harness/pixel.rs"]
+mod pixel;
+#[path = "harness/registers.rs"]
+mod registers;
+#[path = "harness/sprite.rs"]
+mod sprite;
+#[path = "harness/states.rs"]
+mod states;
+#[path = "harness/tiles.rs"]
+mod tiles;
+
+use bench::{Bench, Part};
+use given::list::Digest;
+use std::time::Instant;
+
+const PARTS: &[(&str, Part)] = &[
+    ("conversion", states::round),
+    ("sprite, selection", sprite::selects),
+    ("lcd", lcd::stores),
+    ("tiles, fetches", tiles::fetches),
+    ("tiles, sprites", tiles::sprites),
+    ("oam_bug", oam_bug::corruptions),
+    ("fifo, sprites", fifo::sprites),
+    ("fifo, background", fifo::background),
+    ("registers, table", registers::table),
+    ("registers, writes", registers::writes),
+    ("registers, blanking", registers::blanking),
+    ("registers, reads", registers::reads),
+    ("registers, colour flag", registers::colour),
+    ("memory, start", memory::start),
+    ("memory, VRAM", memory::vram),
+    ("memory, OAM", memory::oam),
+    ("pixel, mixer", pixel::mixer),
+    ("pixel, sprites", pixel::sprites),
+    ("pipe, window", pipe::window),
+    ("pipe, fetcher", pipe::fetcher),
+    ("pipe, feed", pipe::feed),
+    ("pipe, all three", pipe::all),
+    ("order", order::sentence),
+];
+
+/// A number with its thousands apart.
+pub fn spaced(number: u64) -> String {
+    let digits = number.to_string();
+    let mut out = String::new();
+    for (i, digit) in digits.chars().enumerate() {
+        if i > 0 && (digits.len() - i) % 3 == 0 {
+            out.push(',');
+        }
+        out.push(digit);
+    }
+    out
+}
+
+fn main() {
+    let words: Vec<String> = std::env::args().skip(1).collect();
+    let seed: u64 = match words.first().map(|word| word.parse()) {
+        None => 1,
+        Some(Ok(seed)) => seed,
+        Some(Err(_)) => {
+            eprintln!("usage: parts [SEED [PART..]]");
+            std::process::exit(2)
+        }
+    };
+    let wanted =
+        |name: &str| words.len() < 2 || words[1..].iter().any(|w| name.starts_with(w.as_str()));
+    bench::silence_stops();
+    let began = Instant::now();
+    let mut total = 0;
+    for (name, part) in PARTS.iter().filter(|(name, _)| wanted(name)) {
+        let start = Instant::now();
+        // a part has the same cases, whatever the other parts are
+        let mut digest = Digest::new();
+        digest.take(name.as_bytes());
+        let mut bench = Bench::new(seed ^ digest.0);
+        match part(&mut bench) {
+            Ok(()) => {
+                if bench.moved > 0 {
+                    bench.note = format!("{} move the state", spaced(bench.moved));
+                }
+                let seconds = start.elapsed().as_secs_f64();
+                let cases = spaced(bench.cases);
+                let line = format!(
+                    "{name:<23} {cases:>10} cases {seconds:>6.2} s  {}",
+                    bench.note
+                );
+                println!("{}", line.trim_end())
+            }
+            Err(difference) => {
+                println!(
+                    "{}: a difference at case {}, seed {}:\n{}",
+                    name, bench.cases, seed, difference
+                );
+                std::process::exit(1)
+            }
+        }
+        total += bench.cases;
+    }
+    if total == 0 {
+        eprintln!("parts: no part of that name");
+        std::process::exit(2)
+    }
+    println!(
+        "{:<23} {:>10} cases {:>6.2} s",
+        "all equal",
+        spaced(total),
+        began.elapsed().as_secs_f64()
+    );
+}
