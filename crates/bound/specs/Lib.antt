@@ -1,0 +1,2 @@
+-- What the laws of `bound` cite.
+pub mod Potential

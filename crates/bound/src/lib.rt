@@ -1,0 +1,1 @@
+// How long a line takes at most: laws on the definitions of a draw, in specs/ and proofs/.
