@@ -1,4 +1,4 @@
--- What a run of draws keeps: a state in order stays so, and line, cycle and the picture shown stay.
+-- What a run of draws keeps: a state in order stays so, and line, cycle, the picture shown and LCDC stay.
 use mathlib.Core.Path.{_≡_, refl, _∙_}
 use mathlib.Core.Bool.{Bool, true, false, cond}
 use mathlib.Core.List.{List, []}
@@ -13,17 +13,18 @@ use Rattle.draw.specs.declared.Shot.the-variants.{Nothing}
 use Rattle.draw.proofs.Order.{Fine, drawn-fine}
 use Rattle.burst.specs.Burst.{burst, after}
 
--- the same line, cycle and picture shown
+-- the same line, cycle, picture shown and LCDC
 pub record Same (s u : State) : Type 0 where
   pub line : u .beam .line ≡ s .beam .line
   pub cycle : u .beam .cycle ≡ s .beam .cycle
   pub shown : u .beam .shown ≡ s .beam .shown
+  pub lcdc : u .regs .lcdc ≡ s .regs .lcdc
 
 pub same-refl : {s : State} → Same s s
-same-refl = record { line = refl; cycle = refl; shown = refl }
+same-refl = record { line = refl; cycle = refl; shown = refl; lcdc = refl }
 
 pub same-then : {s t u : State} → Same s t → Same t u → Same s u
-same-then p q = record { line = q .line ∙ p .line; cycle = q .cycle ∙ p .cycle; shown = q .shown ∙ p .shown }
+same-then p q = record { line = q .line ∙ p .line; cycle = q .cycle ∙ p .cycle; shown = q .shown ∙ p .shown; lcdc = q .lcdc ∙ p .lcdc }
 
 pixel-same : (s : State) (p : Pipe) → Same s (afterPixel s p)
 unfolding afterPixel
@@ -46,8 +47,8 @@ pixel-same s p = by (eqb (s .beam .x + 1) width)
           pipe = p;
           beam = moved (s .beam);
         }))
-    by true = record { line = refl; cycle = refl; shown = refl }
-    by false = record { line = refl; cycle = refl; shown = refl }
+    by true = record { line = refl; cycle = refl; shown = refl; lcdc = refl }
+    by false = record { line = refl; cycle = refl; shown = refl; lcdc = refl }
 
 pub drawn-same : (vram : List ℕ) (s : State) → Same s (drawn vram s .state)
 unfolding shifted
@@ -58,9 +59,9 @@ drawn-same vram s = by (leb (p .bg .len) 8) (eqb (p .discard) 0)
 
     by : (b d : Bool) → Same s ((cond b (record { state = withPipe s p; shot = Nothing })
         (cond d (pixelDrawn vram s p) (record { state = withPipe s (discarded p); shot = Nothing }))) .state)
-    by true d = record { line = refl; cycle = refl; shown = refl }
+    by true d = record { line = refl; cycle = refl; shown = refl; lcdc = refl }
     by false true = pixel-same s (popped vram s p)
-    by false false = record { line = refl; cycle = refl; shown = refl }
+    by false false = record { line = refl; cycle = refl; shown = refl; lcdc = refl }
 
 pub burst-same : (n : ℕ) (vram : List ℕ) (s : State) → Same s (burst n vram s .state)
 unfolding burst

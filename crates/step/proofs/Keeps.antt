@@ -40,14 +40,14 @@ either false a b = b
 entered-same : (s : State) → Same s (entered s)
 unfolding entered
 entered-same s =
-    either (scans (s .beam)) (record { line = refl; cycle = refl; shown = refl })
-    (either (renders (s .beam)) (record { line = refl; cycle = refl; shown = refl })
-    (either (rests (s .beam)) (record { line = refl; cycle = refl; shown = refl }) same-refl))
+    either (scans (s .beam)) (record { line = refl; cycle = refl; shown = refl; lcdc = refl })
+    (either (renders (s .beam)) (record { line = refl; cycle = refl; shown = refl; lcdc = refl })
+    (either (rests (s .beam)) (record { line = refl; cycle = refl; shown = refl; lcdc = refl }) same-refl))
 
 searched-same : (oam : List ℕ) (s : State) → Same s (searched oam s)
 unfolding searched
 searched-same oam s =
-    either (eqb (modeOf (s .regs .stat)) 2 && eqb (s .beam .cycle) 4) (record { line = refl; cycle = refl; shown = refl }) same-refl
+    either (eqb (modeOf (s .regs .stat)) 2 && eqb (s .beam .cycle) 4) (record { line = refl; cycle = refl; shown = refl; lcdc = refl }) same-refl
 
 pub ready-same : (oam : List ℕ) (s : State) → Same s (searched oam (entered s))
 ready-same oam s = same-then (entered-same s) (searched-same oam (entered s))
@@ -66,7 +66,7 @@ pub settled-same : (n : ℕ) (vram oam : List ℕ) (s : State) → Same s (settl
 unfolding settled compared working
 settled-same n vram oam s =
     let w = same-then (ready-same oam s) (burst-same n vram (searched oam (entered s))) in
-    record { line = w .line; cycle = w .cycle; shown = w .shown }
+    record { line = w .line; cycle = w .cycle; shown = w .shown; lcdc = w .lcdc }
 
 -- the draws store in the picture that is not shown
 chosen-a {ℓ} : {P : Type ℓ} (n : ℕ) (a b : P) → n ≡ 0 → chosen n a b ≡ a

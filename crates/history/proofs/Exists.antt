@@ -1,0 +1,182 @@
+-- Frames exist: steps of 4 move the beam by 4 until the swap.
+use mathlib.Core.Path.{_≡_, refl, sym, ap, ap₂, _∙_}
+use mathlib.Core.Bool.{Bool, true, false, true≢false, not, cond, _&&_, _||_}
+use mathlib.Core.List.{List, [], _∷_}
+use Prim.Native.Nat.{ℕ, zero, suc, _+_, _*_, _%_, _≤_, _<_}
+use native.Mathlib.Omega.{arith}
+use borrow.Author.Tests.{eqb-true, eqb-false, eq-eqb}
+use lib.Dec.{eqb}
+use lib.ListN.{replicate}
+use Rattle.hardware.specs.Screen.{lineCycles, frameLines}
+use Rattle.wrap.specs.Wrap.{bitAt}
+use Rattle.state.specs.declared.Beam.{Beam}
+use Rattle.state.specs.declared.State.{State}
+use Rattle.draw.proofs.Order.{Fine}
+use Rattle.memory.specs.Fresh.{freshState}
+use Rattle.order.specs.Order.{inOrder}
+use Rattle.beam.specs.Advance.{ends, swaps, advanced, onward, nextLine, nextFrame, atLine, inLine}
+use Rattle.step.specs.Step.{lit, settled, stepped}
+use Rattle.step.proofs.Keeps.{settled-fine, settled-same}
+use Rattle.ppu.specs.Numbers.{paced, allSized, stepNumber}
+use Rattle.ppu.specs.Calls.{done}
+use Rattle.history.specs.Run.{World, Call, step, number, perform, freshWorld, swapped, blanked}
+use Rattle.history.specs.Stored.{Trace, go, trace, begun}
+use Rattle.history.specs.Demand.{ran, AtOrigin, staysOn, staysHidden, Reaches, Reached, Begins, Begun}
+use Rattle.history.proofs.Refused.{not-1, not-2}
+use Rattle.history.proofs.Steps.{settled-swaps}
+use Rattle.history.proofs.Invariant.{Inv, fullAfter, begun-inv, go-inv}
+use Rattle.history.proofs.Demand.{ran-inv, swaps-now}
+
+-- where the beam stands, in cycles from line 0, cycle 0
+abbrev position : State → ℕ
+position s = 456 * s .beam .line + s .beam .cycle
+
+-- an advance by 4 that does not swap
+advanced-position : (s : State) → Fine s → 456 * s .beam .line + s .beam .cycle + 4 < 70224
+    → (position (advanced 4 s) ≡ position s + 4) × (advanced 4 s .regs .lcdc ≡ s .regs .lcdc)
+unfolding advanced
+advanced-position s f h = by (ends 4 (s .beam)) refl (eqb (s .beam .line + 1) frameLines) refl
+  where
+    by : (p : Bool) → ends 4 (s .beam) ≡ p → (q : Bool) → eqb (s .beam .line + 1) frameLines ≡ q
+        → (position (cond p (cond q (atLine s (nextFrame (s .beam))) (atLine s (nextLine (s .beam)))) (inLine s (onward 4 (s .beam)))) ≡ position s + 4)
+        × (cond p (cond q (atLine s (nextFrame (s .beam))) (atLine s (nextLine (s .beam)))) (inLine s (onward 4 (s .beam))) .regs .lcdc ≡ s .regs .lcdc)
+    by true e true g =
+        let a = eqb-true (s .beam .cycle + 4) lineCycles e in
+        let b = eqb-true (s .beam .line + 1) frameLines g in
+        absurd (omega arith)
+    by true e false g = let a = eqb-true (s .beam .cycle + 4) lineCycles e in (omega arith, refl)
+    by false e q g = (omega arith, refl)
+
+-- what a step is given, by the three tests
+abbrev outcome : Bool → Bool → Bool → ℕ
+outcome sized order pace = cond sized (cond order (cond pace 0 3) 2) 1
+
+-- a step of 4 at a multiple of 4 is accepted
+accepts : {full : Bool} {t : Trace} → Inv full t → t .world .state .beam .cycle % 4 ≡ 0 → number (step 4) (t .world) ≡ 0
+unfolding stepNumber
+accepts {t = t} i quarter =
+    by (allSized (w .vram) (w .oam) (w .a) (w .b)) (inOrder (w .state)) (not-1 (step 4) w (i .sizes)) (not-2 (step 4) w (i .fine))
+  where
+    w : World
+    w = t .world
+
+    paced-4 : paced (w .state .beam .cycle) 4 ≡ true
+    paced-4 = eq-eqb (w .state .beam .cycle % 4) 0 quarter
+
+    by : (p q : Bool) → (outcome p q (paced (w .state .beam .cycle) 4) ≡ 1 → ⊥) → (outcome p q (paced (w .state .beam .cycle) 4) ≡ 2 → ⊥)
+        → outcome p q (paced (w .state .beam .cycle) 4) ≡ 0
+    by true true a b = rw paced-4 refl
+    by true false a b = absurd (b refl)
+    by false q a b = absurd (a refl)
+
+-- a run that stands at a multiple of 4, on
+record At (p : ℕ) (t : Trace) : Type 0 where
+  full : Bool
+  inv : Inv full t
+  on : lit (t .world .state) ≡ true
+  at : position (t .world .state) ≡ p
+
+module _ {p : ℕ} {t : Trace} (k : At p t) (quarter : p % 4 ≡ 0) where
+  accepted-4 : number (step 4) (t .world) ≡ 0
+  accepted-4 = accepts (k .inv) (omega (arith, k .at))
+
+  -- it swaps where the frame ends, and not before
+  swaps-at : p ≡ 70220 → swapped (step 4) (t .world) ≡ true
+  swaps-at e =
+      let f = k .inv .fine .order in
+      let line : t .world .state .beam .line ≡ 153 = omega (arith, k .at, f .line, f .cycle) in
+      let cycle : t .world .state .beam .cycle ≡ 452 = omega (arith, k .at) in
+      rw (accepted-4, k .on, line, cycle) refl
+
+  never-blanks : blanked (step 4) (t .world) ≡ false
+  never-blanks = rw accepted-4 refl
+
+  swaps-not : p + 4 < 70224 → swapped (step 4) (t .world) ≡ false
+  swaps-not h = rw (accepted-4, k .on) (by (ends 4 b) refl (eqb (b .line + 1) frameLines) refl)
+    where
+      b : Beam
+      b = t .world .state .beam
+
+      by : (x : Bool) → ends 4 b ≡ x → (y : Bool) → eqb (b .line + 1) frameLines ≡ y → (x && y) ≡ false
+      by true e true g =
+          let c = eqb-true (b .cycle + 4) lineCycles e in
+          let d = eqb-true (b .line + 1) frameLines g in
+          absurd (omega (arith, k .at))
+      by true e false g = refl
+      by false e y g = refl
+
+  moves : p + 4 < 70224 → At (p + 4) (go (step 4) t)
+  unfolding stepped
+  moves h =
+      let w = t .world in
+      let same = settled-same 4 (w .vram) (w .oam) (w .state) in
+      let a = advanced-position (settled 4 (w .vram) (w .oam) (w .state)) (settled-fine 4 (w .vram) (w .oam) (w .state) (k .inv .fine)) (omega (arith, k .at, same .line, same .cycle)) in
+      record {
+        full = fullAfter (step 4) w (k .full);
+        inv = go-inv (step 4) (k .inv);
+        on = rw (accepted-4, k .on) (ap (λ (x : ℕ). bitAt x 7) (a .1 ∙ same .lcdc) ∙ k .on);
+        at = rw (accepted-4, k .on) (omega (arith, a .0, k .at, same .line, same .cycle));
+      }
+
+at-same : {p q : ℕ} {t : Trace} → p ≡ q → At p t → At q t
+at-same e k = record { full = k .full; inv = k .inv; on = k .on; at = k .at ∙ e }
+
+-- many steps
+record Many (n p : ℕ) (t : Trace) : Type 0 where
+  stays : staysOn (replicate n (step 4)) t ≡ true
+  hides : staysHidden (replicate n (step 4)) t ≡ true
+  then : At (p + 4 * n) (trace (replicate n (step 4)) t)
+
+many : (n : ℕ) {p : ℕ} {t : Trace} → At p t → p % 4 ≡ 0 → p + 4 * n < 70224 → Many n p t
+unfolding staysOn staysHidden trace
+many zero k quarter h = record { stays = refl; hides = refl; then = at-same (omega arith) k }
+many (suc n) {p} {t} k quarter h =
+    let m = many n (moves k quarter (omega arith)) (omega arith) (omega arith) in
+    record {
+      stays = ap₂ (λ (x y : Bool). not x && y) (never-blanks k quarter) (m .stays);
+      hides = ap₂ (λ (x y : Bool). not x && y) (swaps-not k quarter (omega arith)) (m .hides);
+      then = at-same (omega arith) (m .then);
+    }
+
+-- 17,556 steps of 4 from line 0, cycle 0
+pub reached : Reached
+reached dmg wanted before o on =
+    let k : At 0 (ran dmg wanted before) = record { full = _; inv = ran-inv dmg wanted before; on = on; at = omega (arith, o .line, o .cycle) } in
+    let m = many 17555 k refl (omega arith) in
+    record { on = m .stays; hidden = m .hides; swap = swaps-at (m .then) refl refl }
+
+-- the advance that swaps
+record Swapped (s u : State) : Type 0 where
+  line : u .beam .line ≡ 0
+  cycle : u .beam .cycle ≡ 0
+  lcdc : u .regs .lcdc ≡ s .regs .lcdc
+
+advanced-swap : (s : State) → swaps 4 (s .beam) ≡ true → Swapped s (advanced 4 s)
+unfolding advanced
+advanced-swap s = by (ends 4 (s .beam)) (eqb (s .beam .line + 1) frameLines)
+  where
+    by : (p q : Bool) → (p && q) ≡ true
+        → Swapped s (cond p (cond q (atLine s (nextFrame (s .beam))) (atLine s (nextLine (s .beam)))) (inLine s (onward 4 (s .beam))))
+    by true true e = record { line = refl; cycle = refl; lcdc = refl }
+    by true false e = absurd (true≢false (sym e))
+    by false q e = absurd (true≢false (sym e))
+
+begins : {t : Trace} → At 70220 t → Begins (go (step 4) t)
+unfolding stepped
+begins {t} k =
+    let w = t .world in
+    let same = settled-same 4 (w .vram) (w .oam) (w .state) in
+    let e = settled-swaps 4 (w .vram) (w .oam) (w .state) ∙ swaps-now (k .inv) 4 (swaps-at k refl refl) in
+    let u = advanced-swap (settled 4 (w .vram) (w .oam) (w .state)) e in
+    record {
+      origin = record { line = rw (accepted-4 k refl, k .on) (u .line); cycle = rw (accepted-4 k refl, k .on) (u .cycle) };
+      on = rw (accepted-4 k refl, k .on) (ap (λ (x : ℕ). bitAt x 7) (u .lcdc ∙ same .lcdc) ∙ k .on);
+    }
+
+fresh-at : (dmg wanted : Bool) → At 70168 (begun (freshWorld dmg wanted))
+unfolding freshState
+fresh-at dmg wanted = record { full = false; inv = begun-inv dmg wanted; on = refl; at = refl }
+
+-- 14 steps of 4 from a start
+pub begun-frame : Begun
+begun-frame dmg wanted = begins (many 13 (fresh-at dmg wanted) refl (omega arith) .then)

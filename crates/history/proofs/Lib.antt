@@ -1,0 +1,22 @@
+-- What is proved of runs.
+pub mod Rising
+pub mod Places
+pub mod Picture
+pub mod Kept
+pub mod Parts
+pub mod Begun
+pub mod Written
+pub mod Advanced
+pub mod Performed
+pub mod Refused
+pub mod Public
+pub mod Views
+pub mod Phase
+pub mod Onward
+pub mod Stepping
+pub mod Steps
+pub mod Invariant
+pub mod Demand
+pub mod Frame
+pub mod Alike
+pub mod Exists

@@ -1,0 +1,4 @@
+-- Runs of the public calls, and what is proved of them.
+pub mod Run
+pub mod Stored
+pub mod Demand

@@ -1,0 +1,1 @@
+// Runs of public calls in any order: what is stored, counted and marked. Theorems only: specs/ states them, proofs/ proves them.
