@@ -313,7 +313,7 @@ impl<'a> Run<'a> {
         }
     }
 
-    fn fill_palettes(&mut self, bytes: u32) {
+    pub fn fill_palettes(&mut self, bytes: u32) {
         for port in [0x68, 0x6A] {
             let index = if bytes == 64 { 0x80 } else { self.random.byte() | 0x80 };
             self.register(port, index);
@@ -325,7 +325,7 @@ impl<'a> Run<'a> {
     }
 
     /// Few tiles and none of them empty, so that every pixel tells.
-    fn dense_scene(&mut self) {
+    pub fn dense_scene(&mut self) {
         for bank in [1, 0] {
             self.register(0x4F, bank);
             for address in (0x8000..0x8040).chain(0x8FC0..0x9040) {

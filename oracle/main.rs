@@ -34,6 +34,7 @@ mod list;
 mod machine;
 mod machine_lists;
 mod ppu;
+mod sweep;
 
 const USAGE: &str = "usage: oracle COMMAND
   leaves-answer             answers (8 bytes each) to the requests on standard input
@@ -42,6 +43,7 @@ const USAGE: &str = "usage: oracle COMMAND
   leaves-sample             a short list of the sharpest inputs
   machine-answer            answers (16 bytes each) to the requests on standard input
   machine-random SEED COUNT COUNT random calls
+  machine-sweep SEED STRIDE a write at every cycle, every STRIDE-th case
   machine-sample            at most 40,000 calls with the sharpest cases
   machine-cases             the named cases as text, checked; ends with 1 if a figure differs
   machine-cases-list        the calls of the named cases
@@ -114,6 +116,7 @@ fn run(words: &[String]) -> io::Result<i32> {
         "machine-random" => {
             machine_lists::random(&mut output(), number(words.get(2)), number(words.get(3)))?
         }
+        "machine-sweep" => sweep::list(&mut output(), number(words.get(2)), number(words.get(3)))?,
         "machine-sample" => machine_lists::sample(&mut output())?,
         "machine-cases" => return cases::print(&mut output()),
         "machine-cases-list" => cases::list(&mut output())?,

@@ -1,8 +1,10 @@
-//! Holds the parts of the picture unit against the given text: parts [SEED [PART..]]
+//! Holds the parts of the picture unit against the given text: parts [SEED [PART[=SIZE]..]]
 //! One line a part; the first difference ends the run with 1.
 
 #[path = "harness/bench.rs"]
 mod bench;
+#[path = "harness/draw.rs"]
+mod draw;
 #[path = "harness/fifo.rs"]
 mod fifo;
 #[path = "harness/lcd.rs"]
@@ -17,12 +19,20 @@ mod order;
 mod pipe;
 #[path = "harness/pixel.rs"]
 mod pixel;
+#[path = "harness/refusals.rs"]
+mod refusals;
 #[path = "harness/registers.rs"]
 mod registers;
+#[path = "harness/runs.rs"]
+mod runs;
 #[path = "harness/sprite.rs"]
 mod sprite;
 #[path = "harness/states.rs"]
 mod states;
+#[path = "harness/step.rs"]
+mod step;
+#[path = "harness/sweep.rs"]
+mod sweep;
 #[path = "harness/tiles.rs"]
 mod tiles;
 
@@ -54,6 +64,15 @@ const PARTS: &[(&str, Part)] = &[
     ("pipe, feed", pipe::feed),
     ("pipe, all three", pipe::all),
     ("order", order::sentence),
+    ("draw", draw::draws),
+    ("step", step::steps),
+    ("refusals, lengths", refusals::lengths),
+    ("refusals, order", refusals::disorder),
+    ("refusals, steps", refusals::steps),
+    ("refusals, addresses", refusals::addresses),
+    ("refusals, moments", refusals::moments),
+    ("runs", runs::runs),
+    ("sweep", sweep::sweep),
 ];
 
 /// A number with its thousands apart.
@@ -75,12 +94,20 @@ fn main() {
         None => 1,
         Some(Ok(seed)) => seed,
         Some(Err(_)) => {
-            eprintln!("usage: parts [SEED [PART..]]");
+            eprintln!("usage: parts [SEED [PART[=SIZE]..]]");
             std::process::exit(2)
         }
     };
-    let wanted =
-        |name: &str| words.len() < 2 || words[1..].iter().any(|w| name.starts_with(w.as_str()));
+    let asked: Vec<(&str, Option<u64>)> = words
+        .iter()
+        .skip(1)
+        .map(|word| match word.split_once('=') {
+            Some((name, size)) => (name, size.parse().ok()),
+            None => (word.as_str(), None),
+        })
+        .collect();
+    let of = |name: &str| asked.iter().find(|(start, _)| name.starts_with(start));
+    let wanted = |name: &str| asked.is_empty() || of(name).is_some();
     bench::silence_stops();
     let began = Instant::now();
     let mut total = 0;
@@ -90,6 +117,8 @@ fn main() {
         let mut digest = Digest::new();
         digest.take(name.as_bytes());
         let mut bench = Bench::new(seed ^ digest.0);
+        bench.seed = seed;
+        bench.size = of(name).and_then(|(_, size)| *size);
         match part(&mut bench) {
             Ok(()) => {
                 if bench.moved > 0 {

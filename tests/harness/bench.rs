@@ -40,6 +40,9 @@ pub struct Memory {
 
 pub struct Bench {
     pub random: Random,
+    /// The seed of the run, and how large a part was asked to be.
+    pub seed: u64,
+    pub size: Option<u64>,
     /// The given machine, with the count of stored places.
     pub given: Machine,
     pub memory: Memory,
@@ -53,7 +56,7 @@ pub struct Bench {
     pub note: String,
 }
 
-const PICTURE: usize = 3 * 160 * 144;
+pub const PICTURE: usize = 3 * 160 * 144;
 /// The whole memory is compared once in so many cases.
 const WHOLE: u64 = 1024;
 
@@ -61,6 +64,8 @@ impl Bench {
     pub fn new(seed: u64) -> Self {
         let mut bench = Bench {
             random: Random::new(seed),
+            seed,
+            size: None,
             given: Machine::new(),
             memory: Memory {
                 vram: vec![0; 16384],
@@ -120,6 +125,17 @@ impl Bench {
     /// once in `WHOLE` cases all of the memory. Gives the state after it. A difference is told from the smallest state
     /// and memory that show it.
     pub fn compare_after<A: PartialEq + Debug>(
+        &mut self,
+        s: &State,
+        given: impl Fn(&mut Machine) -> A,
+        rattle: impl Fn(&mut State, &mut Memory) -> A,
+    ) -> Result<State, String> {
+        self.set(s);
+        self.compare_on(s, given, rattle)
+    }
+
+    /// The same, where the given side stands at that state already and goes on from it.
+    pub fn compare_on<A: PartialEq + Debug>(
         &mut self,
         s: &State,
         given: impl Fn(&mut Machine) -> A,
@@ -201,7 +217,6 @@ impl Bench {
         rattle: &impl Fn(&mut State, &mut Memory) -> A,
         whole: bool,
     ) -> Vec<String> {
-        self.set(s);
         let mut state = *s;
         let got = caught(|| rattle(&mut state, &mut self.memory));
         let wanted = caught(|| given(&mut self.given));
@@ -278,6 +293,7 @@ impl Bench {
         let mut still = |s: &State, memory: &Memory| {
             self.memory.clone_from(memory);
             self.sync();
+            self.set(s);
             let found = self.differs(s, given, rattle, true);
             // where the given side stops, nothing is wanted
             if self.stopped {

@@ -25,6 +25,10 @@ pub struct GameBoyConfig {
     pub is_dmg: bool,
 }
 
+pub mod cases;
+pub mod leaves;
 pub mod list;
 pub mod machine;
+pub mod machine_lists;
 pub mod ppu;
+pub mod sweep;

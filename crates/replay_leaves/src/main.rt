@@ -1,6 +1,5 @@
 // Answers a list of requests to the small parts of the picture unit: eight bytes in, eight bytes out, to the end of the input.
 mod bench;
-mod digest;
 mod palettes;
 mod pictures;
 mod plain;
@@ -9,43 +8,11 @@ ghost use Prim.Native.Nat.{_≤_};
 ghost use Rattle.replay_leaves.specs.Sound.{Sound};
 use bench::Bench;
 use hardware::Machine;
-use libc::STDIN_FILENO;
-use libc::STDOUT_FILENO;
 
 // What is left to do after a buffer of requests.
 struct Step {
     bench: Bench,
     more: bool,
-}
-
-// The request at byte i.
-fn request_at(requests: &[u8; 65536], i: usize) -> [u8; 8]
-    requires { ⌜ i ≤ 65528 ⌝ }
-{
-    [
-        requests[i],
-        requests[i + 1],
-        requests[i + 2],
-        requests[i + 3],
-        requests[i + 4],
-        requests[i + 5],
-        requests[i + 6],
-        requests[i + 7],
-    ]
-}
-
-// Puts an answer at byte i.
-fn put(answers: &mut [u8; 65536], i: usize, bytes: [u8; 8])
-    requires { ⌜ i ≤ 65528 ⌝ }
-{
-    answers[i] = bytes[0];
-    answers[i + 1] = bytes[1];
-    answers[i + 2] = bytes[2];
-    answers[i + 3] = bytes[3];
-    answers[i + 4] = bytes[4];
-    answers[i + 5] = bytes[5];
-    answers[i + 6] = bytes[6];
-    answers[i + 7] = bytes[7];
 }
 
 // Answers the first `count` requests of a buffer, in order.
@@ -64,22 +31,14 @@ fn answer_all(
     let mut bench = start;
     let mut k = 0;
     while k < count {
-        let request = request_at(requests, 8 * k);
+        let request = wire::request_at(requests, 8 * k);
         let reply = bench::answer(bench, oam, a, b, request);
         let bytes = reply.bytes;
-        put(answers, 8 * k, bytes);
+        wire::put(answers, 8 * k, bytes);
         bench = reply.bench;
         k += 1;
     }
     bench
-}
-
-// Writes the first n bytes of a buffer, and answers whether it could.
-fn write_first(answers: &[u8; 65536], n: usize) -> bool
-    requires { ⌜ n ≤ 65536 ⌝ }
-{
-    let all = &answers[..];
-    io::write_all(STDOUT_FILENO, &all[..n])
 }
 
 // Reads a buffer of requests and writes its answers. A part of a request at the end of the input is left out.
@@ -94,10 +53,10 @@ fn turn(
 {
     let mut requests = io::large_buffer();
     let mut answers = io::large_buffer();
-    let got = io::read_full(STDIN_FILENO, &mut requests);
-    let bench = answer_all(start, oam, a, b, &requests, &mut answers, got / 8);
-    let written = write_first(&answers, got / 8 * 8);
-    if got == 65536 {
+    let count = wire::read_requests(&mut requests);
+    let bench = answer_all(start, oam, a, b, &requests, &mut answers, count);
+    let written = wire::write_first(&answers, 8 * count);
+    if count == 8192 {
         return Step {
             bench,
             more: written,

@@ -3,7 +3,6 @@ ghost use mathlib.Core.Path.{_≡_};
 ghost use Prim.Native.Nat.{_≤_};
 ghost use lib.ListN.{length};
 ghost use Rattle.hardware.specs.Screen.{pictureBytes};
-use crate::digest;
 use crate::plain;
 use colors::Color;
 use hardware::Machine;
@@ -70,7 +69,7 @@ fn look<'a>(n: u8, a: &'a [u8], b: &'a [u8], q: [u8; 8]) -> [u8; 8]
     if q[0] == 20 {
         return place(picture, q[2], q[3]);
     }
-    digest::bytes_of(digest::of(picture))
+    wire::bytes_of(wire::take_all(wire::nothing(), picture))
 }
 
 // Every request to the pictures but a switch.

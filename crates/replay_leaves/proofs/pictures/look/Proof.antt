@@ -29,8 +29,11 @@ place-requires c κs =
 returns : tie.Need-returns
 returns c = search needs
 
-of-requires : tie.Need-of-requires
-of-requires c κs = search needs
+nothing-requires : tie.Need-nothing-requires
+nothing-requires c κs = search needs
+
+take-all-requires : tie.Need-take-all-requires
+take-all-requires c κs = search needs
 
 bytes-of-requires : tie.Need-bytes-of-requires
 bytes-of-requires c κs = search needs
@@ -48,6 +51,7 @@ look-spec =
     array-read-place-2
     place-requires
     returns
-    of-requires
+    nothing-requires
+    take-all-requires
     bytes-of-requires
     returns-2)

@@ -1,10 +1,10 @@
--- `replay_leaves::write_first` is safe and ends.
+-- `wire::write_first` is safe and ends.
 use mathlib.Core.Path.{sym}
 use native.Mathlib.Omega.{arith}
 use lib.Seq.{length-take-le}
 use borrow.Author.Needs.{needs}
-use Rattle.replay_leaves.proofs.write_first.Statement.{statement}
-use Rattle.replay_leaves.proofs.write_first.Tie as tie
+use Rattle.wire.proofs.write_first.Statement.{statement}
+use Rattle.wire.proofs.write_first.Tie as tie
 
 slice-aggregate-write-all : tie.Need-slice-aggregate-write-all
 slice-aggregate-write-all c = sym (length-take-le _ _ (omega (arith, c .before .before .good)))

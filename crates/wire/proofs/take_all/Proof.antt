@@ -1,15 +1,15 @@
--- `digest::of` is safe and ends.
+-- `wire::take_all` is safe and ends.
 use Prim.Native.Nat.{_≤_, _-_}
 use native.Mathlib.Omega.{arith}
 use lib.ListN.{length}
-use Rattle.replay_leaves.proofs.digest.of.Statement.{statement}
-use Rattle.replay_leaves.proofs.digest.of.Tie as tie
+use Rattle.wire.proofs.take_all.Statement.{statement}
+use Rattle.wire.proofs.take_all.Tie as tie
 
 abbrev Inv-loop : tie.InvT-loop
-Inv-loop bytes h₀ i₀ h i = i ≤ length bytes
+Inv-loop start bytes h₀ i₀ h i = i ≤ length bytes
 
 abbrev μ-loop : tie.MeasureT-loop
-μ-loop bytes h₀ i₀ h i = length bytes - i
+μ-loop start bytes h₀ i₀ h i = length bytes - i
 
 loop-holds : tie.Need-loop-holds Inv-loop μ-loop
 loop-holds c = omega arith
@@ -32,8 +32,8 @@ loop-again c = omega arith
 returns : tie.Need-returns Inv-loop μ-loop
 returns c = tt
 
-pub of-spec : {M : Type 1} → statement M
-of-spec =
+pub take-all-spec : {M : Type 1} → statement M
+take-all-spec =
     tie.close
     (tie.spec
     Inv-loop

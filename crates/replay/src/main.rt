@@ -1,0 +1,111 @@
+// Answers a list of requests to the picture unit: eight bytes in, sixteen bytes out, to the end of the input.
+mod canon;
+mod desk;
+
+ghost use Prim.Native.Nat.{_≤_};
+use desk::Desk;
+use hardware::Machine;
+
+// What is left to do after a buffer of requests.
+struct Step {
+    desk: Desk,
+    more: bool,
+}
+
+// Answers `count` requests of a buffer from byte `first` on, in order.
+fn answer_some(
+    start: Desk,
+    vram: &mut [u8; 16384],
+    oam: &mut [u8; 160],
+    a: &mut [u8; Machine::PICTURE_BYTES],
+    b: &mut [u8; Machine::PICTURE_BYTES],
+    requests: &[u8; 65536],
+    answers: &mut [u8; 65536],
+    first: usize,
+    count: usize,
+) -> Desk
+    requires { ⌜ (first ≤ 32768) × (count ≤ 4096) ⌝ }
+{
+    let mut desk = start;
+    let mut k = 0;
+    while k < count {
+        let request = wire::request_at(requests, first + 8 * k);
+        let reply = desk::answer(desk, vram, oam, a, b, request);
+        let head = reply.head;
+        let tail = reply.tail;
+        wire::put(answers, 16 * k, head);
+        wire::put(answers, 16 * k + 8, tail);
+        desk = reply.desk;
+        k += 1;
+    }
+    desk
+}
+
+// Answers `count` requests from byte `first` on and writes the answers; `more` says whether it could.
+fn half(
+    start: Desk,
+    vram: &mut [u8; 16384],
+    oam: &mut [u8; 160],
+    a: &mut [u8; Machine::PICTURE_BYTES],
+    b: &mut [u8; Machine::PICTURE_BYTES],
+    requests: &[u8; 65536],
+    first: usize,
+    count: usize,
+) -> Step
+    requires { ⌜ (first ≤ 32768) × (count ≤ 4096) ⌝ }
+{
+    let mut answers = io::large_buffer();
+    let desk = answer_some(start, vram, oam, a, b, requests, &mut answers, first, count);
+    let more = wire::write_first(&answers, 16 * count);
+    Step { desk, more }
+}
+
+// Reads a buffer of requests and writes its answers, which fill two. A part of a request at the end of the input is left out.
+fn turn(
+    start: Desk,
+    vram: &mut [u8; 16384],
+    oam: &mut [u8; 160],
+    a: &mut [u8; Machine::PICTURE_BYTES],
+    b: &mut [u8; Machine::PICTURE_BYTES],
+) -> Step {
+    let mut requests = io::large_buffer();
+    let count = wire::read_requests(&mut requests);
+    if count <= 4096 {
+        let last = half(start, vram, oam, a, b, &requests, 0, count);
+        let desk = last.desk;
+        return Step { desk, more: false };
+    }
+    let begun = half(start, vram, oam, a, b, &requests, 0, 4096);
+    if !begun.more {
+        return begun;
+    }
+    let desk = begun.desk;
+    half(desk, vram, oam, a, b, &requests, 32768, count - 4096)
+}
+
+// Nothing says that an input ends, so the turns are counted down from a number that no run uses up.
+fn run(
+    vram: &mut [u8; 16384],
+    oam: &mut [u8; 160],
+    a: &mut [u8; Machine::PICTURE_BYTES],
+    b: &mut [u8; Machine::PICTURE_BYTES],
+) {
+    let mut desk = desk::fresh(vram, oam, a, b);
+    let mut turns = u64::MAX;
+    while turns > 0 {
+        let step = turn(desk, vram, oam, a, b);
+        if !step.more {
+            return;
+        }
+        desk = step.desk;
+        turns -= 1;
+    }
+}
+
+fn main() {
+    let mut vram = [0u8; 16384];
+    let mut oam = [0u8; 160];
+    let mut a = [255u8; Machine::PICTURE_BYTES];
+    let mut b = [255u8; Machine::PICTURE_BYTES];
+    run(&mut vram, &mut oam, &mut a, &mut b);
+}
