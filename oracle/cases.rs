@@ -399,6 +399,58 @@ fn column_case(run: &mut Run) -> Vec<Case> {
     )]
 }
 
+/// The torn picture: off and on at column 100 of line 0 of a dark picture. Line 0 of the next begins at column 100, white
+/// before it, and its mark is no. Leaves the torn picture shown.
+fn torn(run: &mut Run) -> (u8, u8, u16) {
+    run.call(&[1, 1, 0]);
+    for k in 0..16 {
+        run.vram(0x8000 + k, 0xFF);
+    }
+    run.register(0x43, 1);
+    steps(run, TO_LINE_0);
+    while line_and_x(run).1 < 100 {
+        run.step(2);
+    }
+    let (_, x) = line_and_x(run);
+    run.register(0x40, ON & 0x7F);
+    run.register(0x40, ON);
+    loop {
+        let answer = run.step(2);
+        if answer[5] != 0 {
+            run.call(&[11]);
+            return (x, answer[6], u16::from_le_bytes([answer[8], answer[9]]));
+        }
+    }
+}
+
+/// The columns of a line of the shown picture that are white.
+fn white(run: &Run, y: usize) -> Vec<usize> {
+    (0..LCD_WIDTH).filter(|&x| place(run, 0, x, y) == [255; 3]).collect()
+}
+
+fn torn_case(run: &mut Run) -> Vec<Case> {
+    let figures = torn(run);
+    let below = (1..144).map(|y| white(run, y).len()).sum::<usize>();
+    vec![
+        case("torn picture: column of the switch-off, mark, count", "(100, 0, 22940)", format!("{:?}", figures)),
+        case(
+            "torn picture: line 0 is white in columns 0 to 99 and nowhere else, and no line below is",
+            "true 0",
+            format!("{} {}", white(run, 0).into_iter().eq(0..100), below),
+        ),
+    ]
+}
+
+/// The torn picture as a PPM file.
+pub fn torn_picture(out: &mut dyn Write) -> io::Result<()> {
+    let mut sink = io::sink();
+    let mut run = Run::new(&mut sink, u64::MAX, 0, 0);
+    torn(&mut run);
+    write!(out, "P6 160 144 255\n")?;
+    out.write_all(&run.machine.ppu.look_lcd().look_picture(0)[..])?;
+    out.flush()
+}
+
 /// P1 to P6, P8 and P10, by the protocol `leaves`.
 fn leaf_cases() -> Vec<Case> {
     let mut leaves = Leaves::new();
@@ -472,6 +524,7 @@ fn all(out: &mut dyn Write) -> io::Result<Vec<Case>> {
         cases.extend(frame_cases(&mut run, device));
     }
     cases.extend(column_case(&mut run));
+    cases.extend(torn_case(&mut run));
     run.finish()?;
     Ok(cases)
 }

@@ -47,6 +47,7 @@ const USAGE: &str = "usage: oracle COMMAND
   machine-sample            at most 40,000 calls with the sharpest cases
   machine-cases             the named cases as text, checked; ends with 1 if a figure differs
   machine-cases-list        the calls of the named cases
+  torn-picture              the picture of the named case of that name, as a PPM file
   machine-check             counts over the requests on standard input; ends with 1 if a state is
                             not in order";
 
@@ -120,6 +121,7 @@ fn run(words: &[String]) -> io::Result<i32> {
         "machine-sample" => machine_lists::sample(&mut output())?,
         "machine-cases" => return cases::print(&mut output()),
         "machine-cases-list" => cases::list(&mut output())?,
+        "torn-picture" => cases::torn_picture(&mut output())?,
         "machine-check" => {
             let mut check = machine::Check::new();
             answer_all(|request, _| {
