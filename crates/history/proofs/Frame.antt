@@ -21,7 +21,7 @@ use Rattle.ppu.specs.Calls.{done}
 use Rattle.history.specs.Run as run
 use Rattle.history.specs.Run.{World, Call, step, write, read, colour, bugWrite, bugRead, bugReadWrite, shown, pick, number, accepted, perform, shotsIn, shotsFrom, swapsIn, blanksIn, swapped, blanked}
 use Rattle.history.specs.Stored.{Stored, storedBy, Trace, through, go, trace, begun, numbers, from, allBytes}
-use Rattle.history.specs.Demand.{ran, AtOrigin, staysOn, staysHidden, shownPicture, Frame, EachOnce}
+use Rattle.history.specs.Demand.{ran, repainted, AtOrigin, staysOn, staysHidden, shownPicture, Frame, EachOnce}
 use Rattle.history.proofs.Rising.{Rising, rising-whole}
 use Rattle.history.proofs.Places.{stored-none}
 use Rattle.history.proofs.Picture.{put, all-stored, put-append, put-length, put-whole}
@@ -167,22 +167,27 @@ empty : (p : List ℕ) → p ≡ put p []
 unfolding put
 empty p = refl
 
+-- other pictures change nothing of the rest
+repaint-inv : {full : Bool} {t : Trace} {a b : List ℕ} → length a ≡ pictureBytes → length b ≡ pictureBytes → Inv full t → Inv full (repainted t a b)
+repaint-inv x y i =
+    record { fine = i .fine; sizes = record { vram = i .sizes .vram; oam = i .sizes .oam; a = x; b = y }; stands = i .stands }
+
 -- 4
 pub each-once : EachOnce
-each-once dmg wanted before after n o on stays e =
-    let start = ran-inv dmg wanted before in
-    let i = on-inv after (origin-inv start o) on in
-    let p = hidden (ran dmg wanted before .world) in
-    let t = trace after (ran dmg wanted before) in
+each-once dmg wanted before after a b n x y o on stays e =
+    let start = repaint-inv {a = a} {b = b} x y (ran-inv dmg wanted before) in
+    let i = on-inv after (origin-inv start (record { line = o .line; cycle = o .cycle })) on in
+    let p = hidden (repainted (ran dmg wanted before) a b .world) in
+    let t = trace after (repainted (ran dmg wanted before) a b) in
     let from-p : hidden (t .world) ≡ put p (t .since) =
-    drawing after (ran dmg wanted before) p (first-put p (start .stands .origin (o .line) (o .cycle) .1)) on stays in
+    drawing after (repainted (ran dmg wanted before) a b) p (first-put p (start .stands .origin (o .line) (o .cycle) .1)) on stays in
     let all = once-all n i e in
     record {
       once = all;
       shown =
           swap-shows n i e ∙ ap (λ (q : List ℕ). put q (storedBy (shotsFrom (step n) (t .world)))) from-p
           ∙ sym (put-append p (t .since) (storedBy (shotsFrom (step n) (t .world))))
-          ∙ put-whole p (through (step n) t) (hidden-length (ran dmg wanted before .world) (start .sizes .a) (start .sizes .b)) all;
+          ∙ put-whole p (through (step n) t) (hidden-length (repainted (ran dmg wanted before) a b .world) (start .sizes .a) (start .sizes .b)) all;
     }
   where
     first-put : (p : List ℕ) {l : List Stored} → l ≡ [] → p ≡ put p l

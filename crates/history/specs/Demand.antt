@@ -6,7 +6,7 @@ use mathlib.Core.Logic.{_↔_}
 use mathlib.Core.Bool.{Bool, true, not, _&&_}
 use mathlib.Core.List.{List, [], _∷_, List·Memᴰ}
 use lib.ListN.{length, replicate}
-use Rattle.hardware.specs.Screen.{places}
+use Rattle.hardware.specs.Screen.{places, pictureBytes}
 use Rattle.lcd.specs.Pictures.{chosen}
 use Rattle.state.specs.With.{modeOf}
 use Rattle.state.specs.declared.State.{State}
@@ -63,16 +63,21 @@ EndsInTime =
     → (80 < trace after (ran dmg wanted before) .world .state .beam .cycle) × (trace after (ran dmg wanted before) .world .state .beam .cycle < 284)
 
 -- 4. each place once: from line 0, cycle 0, to the step that swaps, never switched off, the places stored are 0 to 23,039, rising, and
--- the picture shown after the swap holds exactly their bytes
+-- the picture shown after the swap holds exactly their bytes, whatever stands in the pictures at line 0, cycle 0
+abbrev pub repainted : Trace → List ℕ → List ℕ → Trace
+repainted t a b = record { world = record { state = t .world .state; vram = t .world .vram; oam = t .world .oam; a = a; b = b }; since = t .since }
+
 pub record Frame (n : ℕ) (t : Trace) : Type 0 where
   pub once : numbers (through (step n) t) ≡ from 0 places
   pub shown : shownPicture (perform (step n) (t .world)) ≡ allBytes (through (step n) t)
 
 abbrev pub EachOnce : Type 0
 EachOnce =
-    (dmg wanted : Bool) (before after : List Call) (n : ℕ) → AtOrigin (ran dmg wanted before .world) → staysOn after (ran dmg wanted before) ≡ true
-    → staysHidden after (ran dmg wanted before) ≡ true → swapped (step n) (trace after (ran dmg wanted before) .world) ≡ true
-    → Frame n (trace after (ran dmg wanted before))
+    (dmg wanted : Bool) (before after : List Call) (a b : List ℕ) (n : ℕ) → length a ≡ pictureBytes → length b ≡ pictureBytes
+    → AtOrigin (ran dmg wanted before .world) → staysOn after (repainted (ran dmg wanted before) a b) ≡ true
+    → staysHidden after (repainted (ran dmg wanted before) a b) ≡ true
+    → swapped (step n) (trace after (repainted (ran dmg wanted before) a b) .world) ≡ true
+    → Frame n (trace after (repainted (ran dmg wanted before) a b))
 
 -- 5. the mark: at every step that swaps it is yes exactly if every place was stored
 abbrev pub Marked : Type 0
