@@ -4,28 +4,9 @@
 
 use std::io::{self, BufReader, BufWriter, Read, Write};
 
-// The given text prints a warning; standard output belongs to the answers.
-macro_rules! println {
-    ($($words:tt)*) => {
-        ()
-    };
-}
-
-pub mod memory {
-    pub enum InterruptType {
-        Vblank,
-        LcdStat,
-    }
-
-    pub trait InterruptManager {
-        fn request_interrupt(&mut self, interrupt: InterruptType);
-    }
-}
-
-#[derive(Clone, Copy, save_state::Savable)]
-pub struct GameBoyConfig {
-    pub is_dmg: bool,
-}
+#[macro_use]
+mod surroundings;
+pub use surroundings::{memory, GameBoyConfig};
 
 mod cases;
 mod leaves;

@@ -2,28 +2,9 @@
 
 #![allow(dead_code, unused_macros)]
 
-// The given text prints a warning.
-macro_rules! println {
-    ($($words:tt)*) => {
-        ()
-    };
-}
-
-pub mod memory {
-    pub enum InterruptType {
-        Vblank,
-        LcdStat,
-    }
-
-    pub trait InterruptManager {
-        fn request_interrupt(&mut self, interrupt: InterruptType);
-    }
-}
-
-#[derive(Clone, Copy, save_state::Savable)]
-pub struct GameBoyConfig {
-    pub is_dmg: bool,
-}
+#[macro_use]
+mod surroundings;
+pub use surroundings::{memory, GameBoyConfig};
 
 pub mod cases;
 pub mod leaves;
