@@ -1,0 +1,40 @@
+-- Pan Docs, "Memory map": the two tables that are lent, VRAM and OAM.
+use Prim.Native.Nat.{ℕ, _*_}
+use mathlib.Core.Path.{_≡_}
+use mathlib.Core.Bool.{Bool, _&&_}
+use mathlib.Core.List.{List}
+use lib.Dec.{eqb}
+use lib.ListN.{length}
+
+-- VRAM is two banks; OAM is forty entries of four bytes
+abbrev pub bankBytes : ℕ
+bankBytes = 8192
+
+abbrev pub vramBytes : ℕ
+vramBytes = 16384
+
+abbrev pub oamBytes : ℕ
+oamBytes = 160
+
+-- what is lent besides the pictures
+pub record Tables : Type 0 where
+  pub vram : List ℕ
+  pub oam : List ℕ
+
+abbrev pub tables : List ℕ → List ℕ → Tables
+tables vram oam = record { vram = vram; oam = oam }
+
+-- both have their length: as a test, and as a fact
+abbrev pub tablesFit : Tables → Bool
+tablesFit t = eqb (length (t .vram)) vramBytes && eqb (length (t .oam)) oamBytes
+
+pub record TablesSized (t : Tables) : Type 0 where
+  pub vram : length (t .vram) ≡ vramBytes
+  pub oam : length (t .oam) ≡ oamBytes
+
+-- one of them put in place of what it was
+abbrev pub withVram : Tables → List ℕ → Tables
+withVram t vram = tables vram (t .oam)
+
+abbrev pub withOam : Tables → List ℕ → Tables
+withOam t oam = tables (t .vram) oam

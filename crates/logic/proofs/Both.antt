@@ -1,0 +1,26 @@
+-- `&&` by its parts.
+use mathlib.Core.Path.{_≡_, refl}
+use mathlib.Core.Bool.{Bool, true, false, _&&_}
+
+pub both : {a b : Bool} → a ≡ true → b ≡ true → a && b ≡ true
+both e f = rw (e, f)
+
+pub first : (a b : Bool) → a && b ≡ true → a ≡ true
+first true b e = refl
+first false b e = e
+
+pub second : (a b : Bool) → a && b ≡ true → b ≡ true
+second true b e = e
+second false true e = refl
+second false false e = e
+
+-- both parts
+pub split : (a b : Bool) → a && b ≡ true → (a ≡ true) × (b ≡ true)
+split a b e = (first a b e, second a b e)
+
+-- where a part failed, so did the whole
+pub first-fails : (a b : Bool) → a ≡ false → a && b ≡ false
+first-fails a b e = rw e
+
+pub second-fails : (a b : Bool) → a ≡ true → b ≡ false → a && b ≡ false
+second-fails a b e f = rw (e, f)

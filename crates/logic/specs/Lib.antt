@@ -1,0 +1,2 @@
+-- What every crate's definitions may cite.
+pub mod Every

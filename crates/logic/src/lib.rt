@@ -1,0 +1,1 @@
+// Logic that every crate uses: tests, their conjunctions, and a test of every element of a list.

@@ -1,0 +1,2 @@
+-- What every refusal cites.
+pub mod Ladder
