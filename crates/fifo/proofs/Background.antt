@@ -9,7 +9,8 @@ use lib.Seq.{take-all}
 use Rattle.colors.specs.declared.ColorPalette.{ColorPalette}
 use Rattle.fifo.specs.declared.BgFifoPixel.{BgFifoPixel}
 use Rattle.fifo.specs.declared.BgFifo.{BgFifo}
-use Rattle.fifo.specs.Ring.{live, laid, every}
+use Rattle.fifo.specs.Ring.{live, laid}
+use Rattle.logic.specs.Every.{every}
 use Rattle.fifo.specs.Background.{bgBlank, bgQueued, bgFresh, bgInked, bgRow, bgPushed, bgFront, bgRest, bgCleared}
 use Rattle.fifo.proofs.Ring.{live-length, live-pop, laid-length, laid-live, laid-more, map-at}
 use Rattle.fifo.proofs.Every.{both, first, second, every-append, every-cons}

@@ -5,7 +5,8 @@ use mathlib.Core.List.{List, [], _∷_, _++_, map}
 use Prim.Native.Nat.{ℕ, zero, suc, _+_, _%_, _<_}
 use native.Mathlib.Omega.{arith}
 use lib.ListN.{length, getD}
-use Rattle.fifo.specs.Ring.{live, every}
+use Rattle.fifo.specs.Ring.{live}
+use Rattle.logic.specs.Every.{every}
 use Rattle.fifo.proofs.Ring.{live-more}
 
 pub both : {a b : Bool} → a ≡ true → b ≡ true → a && b ≡ true

@@ -13,8 +13,9 @@ use Rattle.fifo.specs.declared.SpriteFifoPixel.{SpriteFifoPixel}
 use Rattle.fifo.specs.declared.SpriteFifo.{SpriteFifo}
 use Rattle.fifo.specs.declared.SpritePop.the-variants.{Pixel, Nothing}
 use Rattle.fifo.specs.declared.SpritePopped.{SpritePopped}
-use Rattle.fifo.specs.Ring.{live, laid, every}
-use Rattle.fifo.specs.Sprites.{spriteBlank, spriteQueued, spriteFresh, inked, spriteRow, covers, over, merged, spritePushed, spriteFront, spriteRest, spritePopped, spriteCleared}
+use Rattle.fifo.specs.Ring.{live, laid}
+use Rattle.logic.specs.Every.{every}
+use Rattle.fifo.specs.Sprites.{spriteBlank, spriteQueued, spriteFresh, inked, inkedRow, covers, over, merged, spritePushed, spriteFront, spriteRest, spritePopped, spriteCleared}
 use Rattle.fifo.proofs.Ring.{live-length, live-at, live-pop, laid-length, laid-live, laid-more, laid-past, map-at}
 use Rattle.fifo.proofs.Every.{both, first, second, every-cons}
 
@@ -31,8 +32,8 @@ sprite-cleared q = refl
 pub sprite-length : (q : SpriteFifo) → length (spriteQueued q) ≡ q .len
 sprite-length q = live-length 8 spriteBlank (q .pixels) (q .head) (q .len)
 
-pub sprite-row-length : (ink : SpriteFifoPixel) (colours : List ℕ) → length (spriteRow ink colours) ≡ length colours
-sprite-row-length ink colours = length-map colours (inked ink)
+pub inked-row-length : (ink : SpriteFifoPixel) (colours : List ℕ) → length (inkedRow ink colours) ≡ length colours
+inked-row-length ink colours = length-map colours (inked ink)
 
 -- the mix is as long as the row, pixel by pixel the older or the newer, and the row's own past the older ones
 module _ (coord : Bool) where
@@ -141,24 +142,24 @@ module _ (q : SpriteFifo) where
 -- the slots while a row is pushed: after k pixels, and after all
 module _ (coord : Bool) (q : SpriteFifo) (ink : SpriteFifoPixel) (colours : List ℕ) (eight : length colours ≡ 8) (fits : q .len ≤ 8) where
   abbrev mix : List SpriteFifoPixel
-  mix = merged coord (spriteQueued q) (spriteRow ink colours)
+  mix = merged coord (spriteQueued q) (inkedRow ink colours)
 
   mix-eight : length mix ≡ 8
-  mix-eight = mix-length coord q (spriteRow ink colours) (sprite-row-length ink colours ∙ eight) fits
+  mix-eight = mix-length coord q (inkedRow ink colours) (inked-row-length ink colours ∙ eight) fits
 
   -- pixel k of the mix, where one waits and where none does
   mix-over : (k : ℕ) → k < q .len
       → getD mix k spriteBlank ≡ over coord (getD (laid 8 (q .pixels) (q .head) (take k mix)) ((q .head + k) % 8) spriteBlank) (inked ink (getD colours k 0))
   mix-over k h =
-      let row = spriteRow ink colours in
-      let both-there = merged-over coord (spriteQueued q) row k spriteBlank (rw (sprite-length q) h) (rw (sprite-row-length ink colours, eight) (omega arith)) in
+      let row = inkedRow ink colours in
+      let both-there = merged-over coord (spriteQueued q) row k spriteBlank (rw (sprite-length q) h) (rw (inked-row-length ink colours, eight) (omega arith)) in
       let taken : length (take k mix) ≤ k = rw (length-take-le k mix (rw mix-eight (omega arith))) (omega arith) in
       let waits = live-at 8 spriteBlank (q .pixels) (q .head) (q .len) k h ∙ sym (laid-past 8 spriteBlank (q .pixels) (q .head) (take k mix) k taken (omega arith)) in
       both-there ∙ rw (waits, map-at (inked ink) colours k 0 spriteBlank (rw eight (omega arith)))
 
   mix-new : (k : ℕ) → q .len ≤ k → k < 8 → getD mix k spriteBlank ≡ inked ink (getD colours k 0)
   mix-new k h l =
-      merged-new coord (spriteQueued q) (spriteRow ink colours) k spriteBlank (rw (sprite-length q) h) (rw (sprite-row-length ink colours, eight) l)
+      merged-new coord (spriteQueued q) (inkedRow ink colours) k spriteBlank (rw (sprite-length q) h) (rw (inked-row-length ink colours, eight) l)
       ∙ map-at (inked ink) colours k 0 spriteBlank (rw eight l)
 
   module _ {pixels : List SpriteFifoPixel} {new : SpriteFifoPixel} (k : ℕ) (less : k < 8)
@@ -173,5 +174,5 @@ module _ (coord : Bool) (q : SpriteFifo) (ink : SpriteFifoPixel) (colours : List
         rw (w, colour, ← mix-new k h less) (laid-more 8 spriteBlank (q .pixels) (q .head) mix k (rw mix-eight less))
 
   pub mixing-all : {pixels : List SpriteFifoPixel} (k : ℕ) → k ≡ 8 → pixels ≡ laid 8 (q .pixels) (q .head) (take k mix)
-      → _≡_ {A = SpriteFifo} (record { pixels = pixels; head = q .head; len = 8 }) (spritePushed coord q (spriteRow ink colours))
+      → _≡_ {A = SpriteFifo} (record { pixels = pixels; head = q .head; len = 8 }) (spritePushed coord q (inkedRow ink colours))
   mixing-all k e w = rw (w, take-all k mix (rw (mix-eight, e) (omega arith)))

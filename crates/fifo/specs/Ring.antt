@@ -1,6 +1,5 @@
 -- A queue in a ring of slots. Pan Docs, "Pixel FIFO", has two of them: sixteen slots for the background, eight for sprites.
 use Prim.Native.Nat.{ℕ, zero, suc, _%_}
-use mathlib.Core.Bool.{Bool, true, _&&_}
 use mathlib.Core.List.{List, [], _∷_}
 use lib.ListN.{getD, set}
 
@@ -13,8 +12,3 @@ live size blank slots at (suc n) = getD slots (at % size) blank ∷ live size bl
 unfoldable pub laid : {A : Type 0} → ℕ → List A → ℕ → List A → List A
 laid size slots at [] = slots
 laid size slots at (v ∷ vs) = laid size (set slots (at % size) v) (suc at) vs
-
--- a test holds of every element
-unfoldable pub every : {A : Type 0} → (A → Bool) → List A → Bool
-every test [] = true
-every test (x ∷ l) = test x && every test l

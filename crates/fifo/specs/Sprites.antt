@@ -12,7 +12,7 @@ use Rattle.fifo.specs.Ring.{live, laid}
 
 -- a pixel of nothing
 abbrev pub spriteBlank : SpriteFifoPixel
-spriteBlank = record { color = 0; palette = record { c0 = 0; c1 = 0; c2 = 0; c3 = 0 }; dmg = 0; index = 0; priority = false }
+spriteBlank = record { color = 0; palette = record { c0 = 0; c1 = 0; c2 = 0; c3 = 0 }; obp = 0; index = 0; priority = false }
 
 -- the queued pixels, front to back: pixel k stands in slot head + k, modulo 8
 abbrev pub spriteQueued : SpriteFifo → List SpriteFifoPixel
@@ -25,10 +25,10 @@ spriteFresh = record { pixels = replicate 8 spriteBlank; head = 0; len = 0 }
 -- a sprite's row: its pixel in each of the colours
 abbrev pub inked : SpriteFifoPixel → ℕ → SpriteFifoPixel
 inked ink colour =
-    record { color = colour; palette = ink .palette; dmg = ink .dmg; index = ink .index; priority = ink .priority }
+    record { color = colour; palette = ink .palette; obp = ink .obp; index = ink .index; priority = ink .priority }
 
-abbrev pub spriteRow : SpriteFifoPixel → List ℕ → List SpriteFifoPixel
-spriteRow ink colours = map (inked ink) colours
+abbrev pub inkedRow : SpriteFifoPixel → List ℕ → List SpriteFifoPixel
+inkedRow ink colours = map (inked ink) colours
 
 -- a new pixel covers an old one if its colour is not 0 and one of two holds: the old colour is 0; or priority goes by index,
 -- not by coordinate, and the new index is lower

@@ -2,7 +2,7 @@
 ghost use mathlib.Core.Path.{_≡_};
 ghost use Prim.Native.Nat.{_<_, _≤_};
 ghost use Rattle.fifo.specs.Background.{bgFresh, bgRow, bgPushed, bgPopped, bgCleared};
-ghost use Rattle.fifo.specs.Sprites.{spriteFresh, inked, over, spriteRow, spritePushed, spritePopped, spriteCleared};
+ghost use Rattle.fifo.specs.Sprites.{spriteFresh, inked, over, inkedRow, spritePushed, spritePopped, spriteCleared};
 use colors::ColorPalette;
 
 // A background pixel: its colour number, the palette of its tile, and whether the tile stands above sprites.
@@ -16,7 +16,7 @@ pub struct BgFifoPixel {
 pub struct SpriteFifoPixel {
     pub color: u8,
     pub palette: ColorPalette,
-    pub dmg: u8,
+    pub obp: u8,
     pub index: u8,
     pub priority: bool,
 }
@@ -171,7 +171,7 @@ impl SpriteFifo {
         let blank = SpriteFifoPixel {
             color: 0,
             palette,
-            dmg: 0,
+            obp: 0,
             index: 0,
             priority: false,
         };
@@ -185,7 +185,7 @@ impl SpriteFifo {
     // Eight pixels of a sprite, `ink` in each of the colours, are laid over the queue.
     pub fn push(self, colors: [u8; 8], ink: SpriteFifoPixel, coord: bool) -> Self
         requires { ⌜ self .len ≤ 8 ⌝ }
-        ensures { λ r. ⌜ r ≡ spritePushed coord self (spriteRow ink colors) ⌝ }
+        ensures { λ r. ⌜ r ≡ spritePushed coord self (inkedRow ink colors) ⌝ }
     {
         let mut pixels = self.pixels;
         let head = self.head as usize;

@@ -1,8 +1,12 @@
--- Two pictures: one is shown, the other is drawn.
+-- Two pictures: one is shown, the other, hidden, is drawn.
 use Prim.Native.Nat.{ℕ, zero, suc, _-_}
+use mathlib.Core.Path.{_≡_}
+use mathlib.Core.Bool.{Bool, _&&_}
 use mathlib.Core.List.{List}
+use lib.Dec.{eqb}
+use lib.ListN.{length, replicate}
 use lib.Seq.{sets}
-use Rattle.hardware.specs.Screen.{offset}
+use Rattle.hardware.specs.Screen.{pictureBytes, offset}
 use Rattle.lcd.specs.Mix.{bytesOf}
 use Rattle.lcd.specs.declared.Rgb.{Rgb}
 
@@ -18,3 +22,34 @@ chosen (suc n) a b = b
 -- the number of the picture that is not shown
 abbrev pub other : ℕ → ℕ
 other n = 1 - n
+
+-- both, as they are lent
+pub record Pictures : Type 0 where
+  pub a : List ℕ
+  pub b : List ℕ
+
+abbrev pub pictures : List ℕ → List ℕ → Pictures
+pictures a b = record { a = a; b = b }
+
+-- both have their length: as a test, and as a fact
+abbrev pub picturesFit : Pictures → Bool
+picturesFit p = eqb (length (p .a)) pictureBytes && eqb (length (p .b)) pictureBytes
+
+pub record PicturesSized (p : Pictures) : Type 0 where
+  pub a : length (p .a) ≡ pictureBytes
+  pub b : length (p .b) ≡ pictureBytes
+
+-- both filled with one byte
+abbrev pub filledWith : ℕ → Pictures → Pictures
+filledWith v p = pictures (replicate (length (p .a)) v) (replicate (length (p .b)) v)
+
+-- the one that is shown, and the hidden one
+abbrev pub shownOf : ℕ → Pictures → List ℕ
+shownOf shown p = chosen shown (p .a) (p .b)
+
+abbrev pub hiddenOf : ℕ → Pictures → List ℕ
+hiddenOf shown p = chosen shown (p .b) (p .a)
+
+-- another in place of the hidden one
+abbrev pub withHidden : ℕ → Pictures → List ℕ → Pictures
+withHidden shown p hidden = chosen shown (pictures (p .a) hidden) (pictures hidden (p .b))

@@ -1,3 +1,3 @@
 -- What the contracts of `order` cite.
 pub mod Order
-pub mod Sound
+pub mod Fine

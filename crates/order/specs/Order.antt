@@ -1,5 +1,5 @@
 -- 01, "Lent memory and the state": when a state is in order, clause by clause. Only what is live counts: what is selected,
--- queued or fetched; slots past a count and outside a queue may hold anything.
+-- queued or fetched; slots past a count and outside a queue may hold anything. Here as a test; Fine says the same as facts.
 use Prim.Native.Nat.{ℕ, _%_}
 use mathlib.Core.Bool.{Bool, true, not, _&&_, _||_}
 use mathlib.Core.Path.{_≡_}
@@ -10,7 +10,7 @@ use Rattle.hardware.specs.Screen.{width, height, lineCycles, frameLines}
 use Rattle.colors.specs.declared.PaletteSet.{PaletteSet}
 use Rattle.sprite.specs.declared.Selection.{Selection}
 use Rattle.sprite.specs.declared.SelectedSprite.{SelectedSprite}
-use Rattle.fifo.specs.Ring.{every}
+use Rattle.logic.specs.Every.{every}
 use Rattle.fifo.specs.Background.{bgQueued}
 use Rattle.fifo.specs.Sprites.{spriteQueued}
 use Rattle.fifo.specs.declared.BgFifo.{BgFifo}
@@ -73,7 +73,7 @@ bgOrder q = leb (q .len) 16 && every bgPixelOrder (bgQueued q)
 
 -- queue length at most 8; queued colours at most 3, sprite palette selectors 0 or 1, queued indexes at most 39
 abbrev pub spritePixelOrder : SpriteFifoPixel → Bool
-spritePixelOrder p = colourOrder (p .color) && (leb (p .dmg) 1 && leb (p .index) 39)
+spritePixelOrder p = colourOrder (p .color) && (leb (p .obp) 1 && leb (p .index) 39)
 
 abbrev pub spriteOrder : SpriteFifo → Bool
 spriteOrder q = leb (q .len) 8 && every spritePixelOrder (spriteQueued q)

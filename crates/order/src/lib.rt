@@ -100,7 +100,7 @@ pub fn sprite_in_order(q: SpriteFifo) -> bool
         if pixel.color > 3 {
             return false;
         }
-        if pixel.dmg > 1 {
+        if pixel.obp > 1 {
             return false;
         }
         if pixel.index > 39 {

@@ -21,7 +21,7 @@ pub struct Registers {
     pub wx: u8,
     pub vbk: u8,
     pub coord: bool,
-    pub colour: bool,
+    pub cgb: bool,
 }
 
 // The palettes of the background and of sprites.
@@ -65,7 +65,7 @@ pub struct Beam {
     pub count: u16,
     pub end: u16,
     pub level: bool,
-    pub on: bool,
+    pub turned: bool,
 }
 
 pub struct State {

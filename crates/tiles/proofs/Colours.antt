@@ -83,7 +83,7 @@ pattern-colours vram lcdc tile bits row = mirrored-colours (row-colours _ _) (at
 
 pub fetched-colours : (vram : List ℕ) (f : Fetch) → Colours (fetchBg vram f .row)
 unfolding fetchBg
-fetched-colours vram f = by (blanked (f .colour) (f .lcdc)) (f .window)
+fetched-colours vram f = by (blanked (f .cgb) (f .lcdc)) (f .window)
   where
     by : (none window : Bool) → Colours (cond none noTile (cond window (fetchWindow vram f) (fetchScrolled vram f)) .row)
     by true window = zero-colours

@@ -54,4 +54,4 @@ fetchScrolled vram f =
 -- a fetch of the background or the window
 unfoldable pub fetchBg : List ℕ → Fetch → Fetched
 fetchBg vram f =
-    cond (blanked (f .colour) (f .lcdc)) noTile (cond (f .window) (fetchWindow vram f) (fetchScrolled vram f))
+    cond (blanked (f .cgb) (f .lcdc)) noTile (cond (f .window) (fetchWindow vram f) (fetchScrolled vram f))

@@ -140,7 +140,7 @@ pub fn fetch_tile(vram: &[u8], lcdc: u8, high: bool, row: u8, column: u8) -> Fet
 // What a fetch depends on besides VRAM: colour mode, LCDC, whether it is in the window, the scroll registers, the line,
 // the window's row and the fetch column.
 pub struct Fetch {
-    pub colour: bool,
+    pub cgb: bool,
     pub lcdc: u8,
     pub window: bool,
     pub scx: u8,
@@ -174,7 +174,7 @@ pub fn fetch_bg(vram: &[u8], f: Fetch) -> Fetched
     requires { ⌜ length (now vram) ≡ 16384 ⌝ }
     ensures { λ r. ⌜ r ≡ fetchBg (now (vram .entry)) f ⌝ }
 {
-    if is_blanked(f.colour, f.lcdc) {
+    if is_blanked(f.cgb, f.lcdc) {
         return no_tile();
     }
     if f.window {

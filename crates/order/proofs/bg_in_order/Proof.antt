@@ -5,12 +5,12 @@ use borrow.Author.Tests.{le-leb, lt-leb}
 use Rattle.fifo.specs.Ring.{live}
 use Rattle.fifo.specs.Background.{bgBlank}
 use Rattle.order.specs.Order.{bgPixelOrder}
-use Rattle.order.proofs.Left.{Left, left-start, ring-more, ring-fails, ring-end}
+use Rattle.order.proofs.Tested.{Tested, left-start, ring-more, ring-fails, ring-end}
 use Rattle.order.proofs.bg_in_order.Statement.{statement}
 use Rattle.order.proofs.bg_in_order.Tie as tie
 
 abbrev Inv-loop : tie.InvT-loop
-Inv-loop head len pixels k₀ k = Left bgPixelOrder (live 16 bgBlank pixels head len) k
+Inv-loop head len pixels k₀ k = Tested bgPixelOrder (live 16 bgBlank pixels head len) k
 
 abbrev μ-loop : tie.MeasureT-loop
 μ-loop head len pixels k₀ k = len - k

@@ -9,19 +9,20 @@ every-clause-requires c κs = search needs
 
 returns : tie.Need-returns
 returns c =
+    let groups = c .before .good .0 .1 .1 .1 in
+    let palettes = groups .1 .0 in
+    let selection = groups .1 .1 .0 in
+    let pipe = groups .1 .1 .1 .0 in
     record {
       answer = c .every-clause .ensures;
       shape =
           record {
-            pipe =
-                record {
-                  row = simp length-map at (c .before .good .0 .1 .1 .1 .1 .1 .1 .0 .1 .1 .0 .1 .1 .1 .1 .0 .1 .0 .1);
-                  bg = simp length-map at (c .before .good .0 .1 .1 .1 .1 .1 .1 .0 .1 .1 .1 .0 .1 .1 .0 .1 .0 .1);
-                  obj = simp length-map at (c .before .good .0 .1 .1 .1 .1 .1 .1 .0 .1 .1 .1 .1 .0 .1 .1 .0 .1 .0 .1);
-                };
-            slots = simp length-map at (c .before .good .0 .1 .1 .1 .1 .1 .0 .1 .1 .1 .0 .1 .0 .1);
-            bgBytes = simp length-map at (c .before .good .0 .1 .1 .1 .1 .0 .1 .1 .0 .1 .1 .0 .1 .0 .1);
-            objBytes = simp length-map at (c .before .good .0 .1 .1 .1 .1 .0 .1 .1 .1 .0 .1 .1 .0 .1 .0 .1);
+            row = simp length-map at (pipe .1 .1 .0 .1 .1 .1 .1 .0 .1 .0 .1);
+            bg = simp length-map at (pipe .1 .1 .1 .0 .1 .1 .0 .1 .0 .1);
+            obj = simp length-map at (pipe .1 .1 .1 .1 .0 .1 .1 .0 .1 .0 .1);
+            slots = simp length-map at (selection .1 .1 .1 .0 .1 .0 .1);
+            bgBytes = simp length-map at (palettes .1 .1 .0 .1 .1 .0 .1 .0 .1);
+            objBytes = simp length-map at (palettes .1 .1 .1 .0 .1 .1 .0 .1 .0 .1);
           };
     }
 

@@ -4,12 +4,12 @@ use Prim.Native.Nat.{_-_}
 use native.Mathlib.Omega.{arith}
 use borrow.Author.Tests.{le-leb, lt-leb}
 use Rattle.order.specs.Order.{colourOrder}
-use Rattle.order.proofs.Left.{Left, left-start, left-more, left-fails, left-end}
+use Rattle.order.proofs.Tested.{Tested, left-start, left-more, left-fails, left-end}
 use Rattle.order.proofs.row_in_order.Statement.{statement}
 use Rattle.order.proofs.row_in_order.Tie as tie
 
 abbrev Inv-loop : tie.InvT-loop
-Inv-loop row k₀ k = Left colourOrder row k
+Inv-loop row k₀ k = Tested colourOrder row k
 
 abbrev μ-loop : tie.MeasureT-loop
 μ-loop row k₀ k = 8 - k

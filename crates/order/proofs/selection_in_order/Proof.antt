@@ -4,12 +4,12 @@ use native.Mathlib.Omega.{arith}
 use borrow.Author.Tests.{le-leb, lt-leb}
 use lib.ListN.{length, take, length-map}
 use Rattle.order.specs.Order.{slotOrder}
-use Rattle.order.proofs.Left.{Left, left-start, taken-more, taken-fails, taken-end}
+use Rattle.order.proofs.Tested.{Tested, left-start, taken-more, taken-fails, taken-end}
 use Rattle.order.proofs.selection_in_order.Statement.{statement}
 use Rattle.order.proofs.selection_in_order.Tie as tie
 
 abbrev Inv-loop : tie.InvT-loop
-Inv-loop count slots k₀ k = (count ≤ length slots) × Left slotOrder (take count slots) k
+Inv-loop count slots k₀ k = (count ≤ length slots) × Tested slotOrder (take count slots) k
 
 abbrev μ-loop : tie.MeasureT-loop
 μ-loop count slots k₀ k = count - k

@@ -6,12 +6,12 @@ use lib.ListN.{getD}
 use Rattle.fifo.specs.Ring.{live}
 use Rattle.fifo.specs.Sprites.{spriteBlank}
 use Rattle.order.specs.Order.{spritePixelOrder}
-use Rattle.order.proofs.Left.{Left, left-start, ring-more, ring-fails, ring-end}
+use Rattle.order.proofs.Tested.{Tested, left-start, ring-more, ring-fails, ring-end}
 use Rattle.order.proofs.sprite_in_order.Statement.{statement}
 use Rattle.order.proofs.sprite_in_order.Tie as tie
 
 abbrev Inv-loop : tie.InvT-loop
-Inv-loop head len pixels k₀ k = Left spritePixelOrder (live 8 spriteBlank pixels head len) k
+Inv-loop head len pixels k₀ k = Tested spritePixelOrder (live 8 spriteBlank pixels head len) k
 
 abbrev μ-loop : tie.MeasureT-loop
 μ-loop head len pixels k₀ k = len - k

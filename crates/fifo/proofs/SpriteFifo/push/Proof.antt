@@ -6,14 +6,14 @@ use native.Mathlib.Omega.{arith}
 use borrow.Author.Needs.{needs}
 use lib.ListN.{length, take}
 use Rattle.fifo.specs.Ring.{laid}
-use Rattle.fifo.specs.Sprites.{spriteQueued, spriteRow, merged}
+use Rattle.fifo.specs.Sprites.{spriteQueued, inkedRow, merged}
 use Rattle.fifo.proofs.Sprites.{mixing-over, mixing-new, mixing-all}
 use Rattle.fifo.proofs.SpriteFifo.push.Statement.{statement}
 use Rattle.fifo.proofs.SpriteFifo.push.Tie as tie
 
 abbrev Inv-loop : tie.InvT-loop
 Inv-loop self ink coord colors pixels₀ head len k₀ pixels k =
-    (k ≤ 8) × (pixels ≡ laid 8 (self .pixels) (self .head) (take k (merged coord (spriteQueued self) (spriteRow ink colors))))
+    (k ≤ 8) × (pixels ≡ laid 8 (self .pixels) (self .head) (take k (merged coord (spriteQueued self) (inkedRow ink colors))))
 
 abbrev μ-loop : tie.MeasureT-loop
 μ-loop self ink coord colors pixels₀ head len k₀ pixels k = 8 - k
