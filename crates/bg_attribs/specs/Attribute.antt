@@ -4,8 +4,8 @@ use mathlib.Core.Bool.{Bool}
 use Rattle.wrap.specs.Wrap.{digitAt, bitAt}
 
 -- bits 0 to 2: which of the eight background palettes
-abbrev pub paletteOf : ℕ → ℕ
-paletteOf b = b % 8
+abbrev pub paletteNumber : ℕ → ℕ
+paletteNumber b = b % 8
 
 -- bit 3: the bank that the tile's rows are read from
 abbrev pub bankOf : ℕ → ℕ

@@ -1,6 +1,6 @@
 // The attribute byte of a background tile.
 ghost use mathlib.Core.Path.{_≡_};
-ghost use Rattle.bg_attribs.specs.Attribute.{paletteOf, bankOf, xFlip, yFlip, priorityOf};
+ghost use Rattle.bg_attribs.specs.Attribute.{paletteNumber, bankOf, xFlip, yFlip, priorityOf};
 
 pub struct BgAttribute {
     pub bits: u8,
@@ -23,7 +23,7 @@ impl BgAttribute {
 
     // Which of the eight background palettes.
     pub fn palette(self) -> u8
-        ensures { λ r. ⌜ r ≡ paletteOf (self .bits) ⌝ }
+        ensures { λ r. ⌜ r ≡ paletteNumber (self .bits) ⌝ }
     {
         self.bits % 8
     }

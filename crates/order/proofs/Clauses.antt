@@ -65,15 +65,9 @@ fine h e =
       selection = record { slots = h .slots; count = leb-true _ _ (slots .0); indexes = slots .1 };
       pipe =
           record {
-            rowSize = h .row;
-            bgSize = h .bg;
-            objSize = h .obj;
-            delay = leb-true _ _ (row .0);
-            fetched = row .1;
-            bgLen = leb-true _ _ (bg .0);
-            bgColours = bg .1;
-            objLen = leb-true _ _ (obj .0);
-            objPixels = obj .1;
+            fetcher = record { size = h .row; delay = leb-true _ _ (row .0); colours = row .1 };
+            bg = record { size = h .bg; len = leb-true _ _ (bg .0); pixels = bg .1 };
+            obj = record { size = h .obj; len = leb-true _ _ (obj .0); pixels = obj .1 };
           };
     }
 
@@ -91,5 +85,5 @@ ordered {s} f =
     (both (clause-mode (s .regs .stat) (s .beam .line) (f .mode3))
     (both (both (le-leb _ _ (f .palettes .bg .index)) (le-leb _ _ (f .palettes .obj .index)))
     (both (both (le-leb _ _ (l .count)) (l .indexes))
-    (both (both (le-leb _ _ (p .delay)) (p .fetched))
-    (both (both (le-leb _ _ (p .bgLen)) (p .bgColours)) (both (le-leb _ _ (p .objLen)) (p .objPixels))))))))
+    (both (both (le-leb _ _ (p .fetcher .delay)) (p .fetcher .colours))
+    (both (both (le-leb _ _ (p .bg .len)) (p .bg .pixels)) (both (le-leb _ _ (p .obj .len)) (p .obj .pixels))))))))

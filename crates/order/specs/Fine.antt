@@ -10,9 +10,12 @@ use Rattle.colors.specs.declared.PaletteSet.{PaletteSet}
 use Rattle.sprite.specs.declared.Selection.{Selection}
 use Rattle.fifo.specs.Background.{bgQueued}
 use Rattle.fifo.specs.Sprites.{spriteQueued}
+use Rattle.fifo.specs.declared.BgFifo.{BgFifo}
+use Rattle.fifo.specs.declared.SpriteFifo.{SpriteFifo}
 use Rattle.state.specs.With.{modeOf}
 use Rattle.state.specs.declared.Registers.{Registers}
 use Rattle.state.specs.declared.Palettes.{Palettes}
+use Rattle.state.specs.declared.Fetcher.{Fetcher}
 use Rattle.state.specs.declared.Pipe.{Pipe}
 use Rattle.state.specs.declared.Beam.{Beam}
 use Rattle.state.specs.declared.State.{State}
@@ -47,18 +50,28 @@ pub record SelectionFine (l : Selection) : Type 0 where
   pub count : l .count ≤ 10
   pub indexes : every slotOrder (take (l .count) (l .slots)) ≡ true
 
--- fetch delay at most 8; queue lengths at most 16 and 8; queued and fetched colours at most 3, sprite palette selectors 0 or 1, queued
--- indexes at most 39
+-- fetch delay at most 8; fetched colours at most 3
+pub record FetcherFine (f : Fetcher) : Type 0 where
+  pub size : length (f .row) ≡ 8
+  pub delay : f .delay ≤ 8
+  pub colours : waitingOrder (f .waiting) (f .row) ≡ true
+
+-- queue length at most 16; queued colours at most 3
+pub record BgFine (q : BgFifo) : Type 0 where
+  pub size : length (q .pixels) ≡ 16
+  pub len : q .len ≤ 16
+  pub pixels : every bgPixelOrder (bgQueued q) ≡ true
+
+-- queue length at most 8; queued colours at most 3, sprite palette selectors 0 or 1, queued indexes at most 39
+pub record SpriteFine (q : SpriteFifo) : Type 0 where
+  pub size : length (q .pixels) ≡ 8
+  pub len : q .len ≤ 8
+  pub pixels : every spritePixelOrder (spriteQueued q) ≡ true
+
 pub record PipeFine (p : Pipe) : Type 0 where
-  pub rowSize : length (p .fetcher .row) ≡ 8
-  pub bgSize : length (p .bg .pixels) ≡ 16
-  pub objSize : length (p .obj .pixels) ≡ 8
-  pub delay : p .fetcher .delay ≤ 8
-  pub fetched : waitingOrder (p .fetcher .waiting) (p .fetcher .row) ≡ true
-  pub bgLen : p .bg .len ≤ 16
-  pub bgColours : every bgPixelOrder (bgQueued (p .bg)) ≡ true
-  pub objLen : p .obj .len ≤ 8
-  pub objPixels : every spritePixelOrder (spriteQueued (p .obj)) ≡ true
+  pub fetcher : FetcherFine (p .fetcher)
+  pub bg : BgFine (p .bg)
+  pub obj : SpriteFine (p .obj)
 
 -- all of it; mode 3 only on lines below 144
 pub record Fine (s : State) : Type 0 where

@@ -1,2 +1,5 @@
 -- The laws of `pipe` that belong to no one function.
-pub mod Sound
+-- the ways of the window, of the fetcher and of the row that goes in
+pub mod Ways
+-- each of them keeps a pipe in order
+pub mod Fine

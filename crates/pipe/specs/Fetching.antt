@@ -3,15 +3,15 @@ use Prim.Native.Nat.{ℕ, _-_}
 use mathlib.Core.Bool.{Bool, cond}
 use mathlib.Core.List.{List}
 use lib.Dec.{eqb, leb}
-use Rattle.wrap.specs.Wrap.{minus}
-use Rattle.bg_attribs.specs.Attribute.{paletteOf, priorityOf}
+use Rattle.wrap.specs.Wrap.{up}
+use Rattle.bg_attribs.specs.Attribute.{paletteNumber, priorityOf}
 use Rattle.bg_attribs.specs.declared.BgAttribute.{BgAttribute}
 use Rattle.colors.specs.Palettes.{palette}
 use Rattle.fifo.specs.Background.{bgRow, bgPushed}
-use Rattle.fifo.specs.declared.BgFifo.{BgFifo}
 use Rattle.tiles.specs.Map.{fetchBg}
 use Rattle.tiles.specs.declared.Fetch.{Fetch}
 use Rattle.tiles.specs.declared.Fetched.{Fetched}
+use Rattle.state.specs.With.{withDelay, withWaiting, withFetcher, withQueues}
 use Rattle.state.specs.declared.Registers.{Registers}
 use Rattle.state.specs.declared.Waiting.{Waiting}
 use Rattle.state.specs.declared.Waiting.the-variants.{Row, Nothing}
@@ -22,7 +22,7 @@ use Rattle.state.specs.declared.Pipe.{Pipe}
 abbrev pub fetchOf : Registers → ℕ → Pipe → Fetch
 fetchOf r line p =
     record {
-      colour = r .colour;
+      cgb = r .cgb;
       lcdc = r .lcdc;
       window = p .window;
       scx = r .scx;
@@ -32,16 +32,13 @@ fetchOf r line p =
       column = p .fetcher .column;
     }
 
-abbrev pub withFetcher : Pipe → Fetcher → Pipe
-withFetcher p f = record { fetcher = f; bg = p .bg; obj = p .obj; window = p .window; wrow = p .wrow; discard = p .discard }
-
 -- a tile row is fetched: the delay becomes 8, the column goes up by one, modulo 256
 abbrev pub tookRow : Fetcher → Fetched → Fetcher
-tookRow f t = record { delay = 8; column = minus (f .column) 255; row = t .row; waiting = Row (t .attribute) }
+tookRow f t = record { delay = 8; column = up (f .column); row = t .row; waiting = Row (t .attribute) }
 
 -- the delay falls, never below 0
 abbrev pub waited : Fetcher → Fetcher
-waited f = record { delay = f .delay - 1; column = f .column; row = f .row; waiting = f .waiting }
+waited f = withDelay f (f .delay - 1)
 
 -- at 0 a row is fetched
 unfoldable pub fetchedPipe : List ℕ → Registers → ℕ → Pipe → Pipe
@@ -51,19 +48,11 @@ fetchedPipe vram r line p =
     (withFetcher p (waited (p .fetcher)))
 
 -- the fetched row goes into the background queue, once, with the palette of that moment
-abbrev pub emptied : Fetcher → Fetcher
-emptied f = record { delay = f .delay; column = f .column; row = f .row; waiting = Nothing }
-
 abbrev pub rowPushed : List ℕ → BgAttribute → Pipe → Pipe
 rowPushed palettes t p =
-    record {
-      fetcher = emptied (p .fetcher);
-      bg = bgPushed (p .bg) (bgRow (palette palettes (paletteOf (t .bits))) (priorityOf (t .bits)) (p .fetcher .row));
-      obj = p .obj;
-      window = p .window;
-      wrow = p .wrow;
-      discard = p .discard;
-    }
+    withQueues (withFetcher p (withWaiting (p .fetcher) Nothing))
+    (bgPushed (p .bg) (bgRow (palette palettes (paletteNumber (t .bits))) (priorityOf (t .bits)) (p .fetcher .row)))
+    (p .obj)
 
 abbrev pub fedBy : List ℕ → Waiting → Pipe → Pipe
 fedBy palettes (Row t) p = rowPushed palettes t p

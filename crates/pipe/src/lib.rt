@@ -2,14 +2,14 @@
 ghost use mathlib.Core.Path.{_≡_};
 ghost use Prim.Native.Nat.{_≤_};
 ghost use lib.ListN.{length};
-ghost use Rattle.pipe.specs.Window.{reached, enters, discardAt, entered, windowed};
+ghost use Rattle.hardware.specs.Tables.{vramBytes};
+ghost use Rattle.pipe.specs.Window.{opened, reached, enters, discardAt, emptied, windowEntered, windowed};
 ghost use Rattle.pipe.specs.Fetching.{tookRow, fetchedPipe, rowPushed, fed};
 use bg_attribs::BgAttribute;
 use colors::PaletteSet;
 use state::Fetcher;
 use state::Pipe;
 use state::Registers;
-use state::Spot;
 use state::Waiting;
 use tiles::Fetch;
 use tiles::Fetched;
@@ -27,20 +27,27 @@ fn is_reached(x: u8, wx: u8) -> bool
     false
 }
 
-// Whether the window is entered at a place.
-pub fn does_enter(r: Registers, inside: bool, at: Spot) -> bool
-    ensures { λ b. ⌜ b ≡ enters r inside at ⌝ }
+// Whether the window is open on a line.
+pub fn is_open(r: Registers, line: u8) -> bool
+    ensures { λ b. ⌜ b ≡ opened r line ⌝ }
 {
     if !wrap::bit(r.lcdc, 5) {
+        return false;
+    }
+    r.wy <= line
+}
+
+// Whether an open window is entered at LCD x.
+pub fn does_enter(allowed: bool, inside: bool, x: u8, wx: u8) -> bool
+    ensures { λ b. ⌜ b ≡ enters allowed inside x wx ⌝ }
+{
+    if !allowed {
         return false;
     }
     if inside {
         return false;
     }
-    if r.wy > at.line {
-        return false;
-    }
-    is_reached(at.x, r.wx)
+    is_reached(x, wx)
 }
 
 // The discard at the entry to the window: 7 - WX, on purpose modulo 256.
@@ -56,9 +63,9 @@ fn discard_at(wx: u8, discard: u8) -> u8
     discard
 }
 
-// The pipe at the entry to the window: both queues empty, fetch column 0.
-fn enter(wx: u8, p: Pipe) -> Pipe
-    ensures { λ n. ⌜ n ≡ entered wx p ⌝ }
+// The pipe with both queues empty and fetch column 0.
+pub fn empty(p: Pipe) -> Pipe
+    ensures { λ n. ⌜ n ≡ emptied p ⌝ }
 {
     let bg = p.bg.clear();
     let obj = p.obj.clear();
@@ -66,16 +73,25 @@ fn enter(wx: u8, p: Pipe) -> Pipe
     n.bg = bg;
     n.obj = obj;
     n.fetcher.column = 0;
+    n
+}
+
+// The pipe where the window is entered.
+fn enter(wx: u8, p: Pipe) -> Pipe
+    ensures { λ n. ⌜ n ≡ windowEntered wx p ⌝ }
+{
+    let mut n = empty(p);
     n.window = true;
     n.discard = discard_at(wx, p.discard);
     n
 }
 
-pub fn try_enter_window(r: Registers, at: Spot, p: Pipe) -> Pipe
-    ensures { λ n. ⌜ n ≡ windowed r at p ⌝ }
+// The pipe after the window was tried at LCD x, open or not.
+pub fn try_enter_window(allowed: bool, x: u8, wx: u8, p: Pipe) -> Pipe
+    ensures { λ n. ⌜ n ≡ windowed allowed x wx p ⌝ }
 {
-    if does_enter(r, p.window, at) {
-        return enter(r.wx, p);
+    if does_enter(allowed, p.window, x, wx) {
+        return enter(wx, p);
     }
     p
 }
@@ -97,7 +113,7 @@ fn take_row(f: Fetcher, t: Fetched) -> Fetcher
 
 // The fetcher goes on by a cycle: the delay falls, and at 0 a tile row is fetched.
 pub fn cycle_fetcher(vram: &[u8], r: Registers, line: u8, p: Pipe) -> Pipe
-    requires { ⌜ length (now vram) ≡ 16384 ⌝ }
+    requires { ⌜ length (now vram) ≡ vramBytes ⌝ }
     ensures { λ n. ⌜ n ≡ fetchedPipe (now (vram .entry)) r line p ⌝ }
 {
     let mut n = p;
@@ -107,7 +123,7 @@ pub fn cycle_fetcher(vram: &[u8], r: Registers, line: u8, p: Pipe) -> Pipe
         return n;
     }
     let fetch = Fetch {
-        colour: r.colour,
+        cgb: r.cgb,
         lcdc: r.lcdc,
         window: p.window,
         scx: r.scx,

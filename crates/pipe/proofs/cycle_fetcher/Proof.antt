@@ -13,7 +13,10 @@ sub-delay c = search needs
 
 returns : tie.Need-returns
 unfolding fetchedPipe
-returns c = rw (ne-eqb (c .before .before .before .before .before .args .p .fetcher .delay - 1) 0 (omega arith))
+returns c =
+    let later = c .before .before in
+    let start = later .before .before in
+    rw (ne-eqb (start .before .args .p .fetcher .delay - 1) 0 (omega arith))
 
 fetch-bg-requires : tie.Need-fetch-bg-requires
 fetch-bg-requires c κs = search needs
@@ -24,7 +27,9 @@ take-row-requires c κs = search needs
 returns-2 : tie.Need-returns-2
 unfolding fetchedPipe
 returns-2 c =
-    let last = eq-eqb (c .before .before .before .before .before .args .p .fetcher .delay - 1) 0 (omega arith) in
+    let soon = c .before .before in
+    let start = soon .before .before in
+    let last = eq-eqb (start .before .args .p .fetcher .delay - 1) 0 (omega arith) in
     rw (last, c .take-row .ensures, c .before .fetch-bg .ensures)
 
 pub cycle-fetcher-spec : {M : Type 1} → statement M

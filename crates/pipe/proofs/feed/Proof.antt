@@ -18,14 +18,19 @@ enum-told c = search needs
 
 returns-2 : tie.Need-returns-2
 unfolding fed
-returns-2 c = rw (le-leb _ _ (c .before .before .before .if1 .left), c .enum-told .given .1)
+returns-2 c =
+    let few = c .before .before in
+    rw (le-leb _ _ (few .before .if1 .left), c .enum-told .given .1)
 
 push-row-requires : tie.Need-push-row-requires
 push-row-requires c κs = search needs
 
 returns-3 : tie.Need-returns-3
 unfolding fed
-returns-3 c = rw (c .push-row .ensures, le-leb _ _ (c .before .before .before .before .before .if1 .left), c .before .before .waiting .given .1)
+returns-3 c =
+    let known = c .before .before in
+    let few = known .before .before in
+    rw (c .push-row .ensures, le-leb _ _ (few .before .if1 .left), known .waiting .given .1)
 
 pub feed-spec : {M : Type 1} → statement M
 feed-spec =

@@ -16,7 +16,9 @@ push-requires : tie.Need-push-requires
 push-requires c κs = search needs
 
 returns : tie.Need-returns
-returns c = rw (c .push .ensures, c .before .priority .ensures, c .before .before .get-palette .ensures, c .before .before .before .palette .ensures)
+returns c =
+    let ink = c .before .before in
+    rw (c .push .ensures, c .before .priority .ensures, ink .get-palette .ensures, ink .before .palette .ensures)
 
 pub push-row-spec : {M : Type 1} → statement M
 push-row-spec =
