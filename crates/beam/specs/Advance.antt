@@ -1,10 +1,10 @@
 -- 01, "One step", 5: the cycle advances; at 456 the next line; after line 153 the pictures swap.
-use Prim.Native.Nat.{ℕ, _+_, _-_}
+use Prim.Native.Nat.{ℕ, _+_}
 use mathlib.Core.Bool.{Bool, false, cond, _&&_}
 use lib.Dec.{eqb}
 use Rattle.hardware.specs.Screen.{lineCycles, frameLines, places}
 use Rattle.lcd.specs.Pictures.{other}
-use Rattle.state.specs.With.{withLy}
+use Rattle.state.specs.With.{withRegisters, withBeam, withLy, withPlace, withX, withShown, withCount, withTurned}
 use Rattle.state.specs.declared.Beam.{Beam}
 use Rattle.state.specs.declared.State.{State}
 
@@ -17,52 +17,34 @@ swaps n b = ends n b && eqb (b .line + 1) frameLines
 
 -- cycle advances; `lcd_turned_on` falls
 abbrev pub onward : ℕ → Beam → Beam
-onward n b =
-    record {
-      line = b .line;
-      cycle = b .cycle + n;
-      x = b .x;
-      shown = b .shown;
-      count = b .count;
-      end = b .end;
-      level = b .level;
-      on = false;
-    }
+onward n b = withTurned (withPlace b (b .line) (b .cycle + n)) false
 
 -- the next line
 abbrev pub nextLine : Beam → Beam
-nextLine b =
-    record {
-      line = b .line + 1;
-      cycle = 0;
-      x = b .x;
-      shown = b .shown;
-      count = b .count;
-      end = b .end;
-      level = b .level;
-      on = false;
-    }
+nextLine b = withTurned (withPlace b (b .line + 1) 0) false
 
 -- after 153 the pictures swap: line 0, LCD x 0, no place stored
 abbrev pub nextFrame : Beam → Beam
-nextFrame b =
-    record { line = 0; cycle = 0; x = 0; shown = other (b .shown); count = 0; end = b .end; level = b .level; on = false }
+nextFrame b = withShown (withCount (withX (withTurned (withPlace b 0 0) false) 0) 0) (other (b .shown))
 
--- the state with another beam; a new line sets LY
+-- a new line sets LY
 abbrev pub atLine : State → Beam → State
-atLine s b =
-    record { machine = s .machine; regs = withLy (s .regs) (b .line); palettes = s .palettes; selection = s .selection; pipe = s .pipe; beam = b }
+atLine s b = withBeam (withRegisters s (withLy (s .regs) (b .line))) b
 
-abbrev pub inLine : State → Beam → State
-inLine s b =
-    record { machine = s .machine; regs = s .regs; palettes = s .palettes; selection = s .selection; pipe = s .pipe; beam = b }
+-- the state further in its line, in the next line, in the next frame
+abbrev pub inLine : ℕ → State → State
+inLine n s = withBeam s (onward n (s .beam))
+
+abbrev pub inNextLine : State → State
+inNextLine s = atLine s (nextLine (s .beam))
+
+abbrev pub inNextFrame : State → State
+inNextFrame s = atLine s (nextFrame (s .beam))
 
 -- at 456 the next line
 unfoldable pub advanced : ℕ → State → State
 advanced n s =
-    cond (ends n (s .beam))
-    (cond (eqb (s .beam .line + 1) frameLines) (atLine s (nextFrame (s .beam))) (atLine s (nextLine (s .beam))))
-    (inLine s (onward n (s .beam)))
+    cond (ends n (s .beam)) (cond (eqb (s .beam .line + 1) frameLines) (inNextFrame s) (inNextLine s)) (inLine n s)
 
 -- the whole mark: yes at a swap with every place stored
 unfoldable pub whole : ℕ → Beam → Bool

@@ -2,11 +2,12 @@
 ghost use mathlib.Core.Path.{_≡_};
 ghost use Prim.Native.Nat.{_<_, _≤_, _+_};
 ghost use Rattle.hardware.specs.Screen.{lineCycles, frameLines};
-ghost use Rattle.beam.specs.Advance.{swaps, onward, nextLine, nextFrame, atLine, inLine, advanced, whole};
+ghost use Rattle.beam.specs.Advance.{swaps, onward, nextLine, nextFrame, atLine, advanced, whole};
 use hardware::Machine;
 use state::Beam;
 use state::State;
 
+// The beam further in its line.
 fn onward_by(b: Beam, cycles: u8) -> Beam
     requires { ⌜ b .cycle + cycles ≤ lineCycles ⌝ }
     ensures { λ n. ⌜ n ≡ onward cycles b ⌝ }
@@ -14,10 +15,11 @@ fn onward_by(b: Beam, cycles: u8) -> Beam
     let cycle = b.cycle + cycles as u16;
     let mut n = b;
     n.cycle = cycle;
-    n.on = false;
+    n.turned = false;
     n
 }
 
+// The beam on the next line.
 fn next_line(b: Beam) -> Beam
     requires { ⌜ b .line < frameLines ⌝ }
     ensures { λ n. ⌜ n ≡ nextLine b ⌝ }
@@ -26,7 +28,7 @@ fn next_line(b: Beam) -> Beam
     let mut n = b;
     n.line = line;
     n.cycle = 0;
-    n.on = false;
+    n.turned = false;
     n
 }
 
@@ -42,7 +44,7 @@ fn next_frame(b: Beam) -> Beam
     n.x = 0;
     n.shown = shown;
     n.count = 0;
-    n.on = false;
+    n.turned = false;
     n
 }
 

@@ -1,5 +1,5 @@
 -- `beam::advance` meets its contract.
-use borrow.Author.Tests.{eq-eqb, ne-eqb, not-true, not-false}
+use borrow.Author.Tests.{eq-eqb, ne-eqb}
 use Rattle.beam.specs.Advance.{advanced}
 use borrow.Author.Needs.{needs}
 use Rattle.beam.proofs.advance.Statement.{statement}
@@ -26,7 +26,10 @@ at-line-requires c κs = search needs
 
 returns-2 : tie.Need-returns-2
 unfolding advanced
-returns-2 c = rw (c .at-line .ensures, c .before .next-frame .ensures, eq-eqb _ _ (c .before .before .before .before .if1 .left), eq-eqb _ _ (c .before .before .if2 .taken))
+returns-2 c =
+    let last = c .before .before in
+    let over = last .before .before in
+    rw (c .at-line .ensures, c .before .next-frame .ensures, eq-eqb _ _ (over .if1 .left), eq-eqb _ _ (last .if2 .taken))
 
 next-line-requires : tie.Need-next-line-requires
 next-line-requires c κs = search needs
@@ -36,7 +39,10 @@ at-line-requires-2 c κs = search needs
 
 returns-3 : tie.Need-returns-3
 unfolding advanced
-returns-3 c = rw (c .at-line2 .ensures, c .before .next-line .ensures, eq-eqb _ _ (c .before .before .before .before .if1 .left), ne-eqb _ _ (c .before .before .if2 .left))
+returns-3 c =
+    let more = c .before .before in
+    let over = more .before .before in
+    rw (c .at-line2 .ensures, c .before .next-line .ensures, eq-eqb _ _ (over .if1 .left), ne-eqb _ _ (more .if2 .left))
 
 pub advance-spec : {M : Type 1} → statement M
 advance-spec =

@@ -1,5 +1,5 @@
 -- `beam::does_swap` meets its contract.
-use borrow.Author.Tests.{eq-eqb, ne-eqb, not-true, not-false}
+use borrow.Author.Tests.{eq-eqb, ne-eqb}
 use borrow.Author.Needs.{needs}
 use Rattle.beam.proofs.does_swap.Statement.{statement}
 use Rattle.beam.proofs.does_swap.Tie as tie

@@ -1,0 +1,24 @@
+-- The cycle advances: further in the line, to the next line, or to the next frame with a swap.
+use mathlib.Core.Path.{_≡_, refl}
+use mathlib.Core.Bool.{Bool, true, false, cond, _&&_}
+use Prim.Native.Nat.{ℕ, _+_}
+use borrow.Author.Tests.{eqb-true, eqb-false}
+use lib.Dec.{eqb}
+use Rattle.hardware.specs.Screen.{lineCycles, frameLines}
+use Rattle.state.specs.declared.State.{State}
+use Rattle.beam.specs.Advance.{ends, swaps, inLine, inNextLine, inNextFrame, advanced}
+
+-- what holds of each way, with the answer whether it swaps, holds of the advance
+pub advanced-cases : (n : ℕ) (s : State) (P : Bool → State → Type 0)
+    → ((s .beam .cycle + n ≡ lineCycles → ⊥) → P false (inLine n s))
+    → (s .beam .cycle + n ≡ lineCycles → (s .beam .line + 1 ≡ frameLines → ⊥) → P false (inNextLine s))
+    → (s .beam .cycle + n ≡ lineCycles → s .beam .line + 1 ≡ frameLines → P true (inNextFrame s))
+    → P (swaps n (s .beam)) (advanced n s)
+unfolding advanced
+advanced-cases n s P within line frame = by (ends n (s .beam)) refl (eqb (s .beam .line + 1) frameLines) refl
+  where
+    by : (p : Bool) → ends n (s .beam) ≡ p → (q : Bool) → eqb (s .beam .line + 1) frameLines ≡ q
+        → P (p && q) (cond p (cond q (inNextFrame s) (inNextLine s)) (inLine n s))
+    by true e true f = frame (eqb-true _ _ e) (eqb-true _ _ f)
+    by true e false f = line (eqb-true _ _ e) (eqb-false _ _ f)
+    by false e q f = within (eqb-false _ _ e)
