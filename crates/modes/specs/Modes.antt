@@ -4,10 +4,11 @@ use mathlib.Core.Bool.{Bool, false, not, cond, _&&_, _||_}
 use mathlib.Core.List.{List}
 use lib.Dec.{eqb, ltb}
 use Rattle.wrap.specs.Wrap.{bitAt}
-use Rattle.hardware.specs.Screen.{height}
+use Rattle.hardware.specs.Screen.{height, lastLine}
 use Rattle.sprite.specs.Pick.{selection}
-use Rattle.pixel.specs.Sprites.{heightOf}
-use Rattle.state.specs.With.{withSelection, withStat, withLy, withEnd, withMode, withCoincidence, modeOf}
+use Rattle.pixel.specs.Sprites.{tallOf}
+use Rattle.state.specs.With.{modeOf, withMode, withCoincidence, withRegisters, withSelection, withPipe, withBeam, withStat, withLy}
+use Rattle.state.specs.With.{withDelay, withFetcher, withWindowRow, withDiscard, withEnd, withLevel}
 use Rattle.state.specs.declared.Pipe.{Pipe}
 use Rattle.state.specs.declared.Beam.{Beam}
 use Rattle.state.specs.declared.State.{State}
@@ -18,7 +19,7 @@ stands b line cycle = eqb (b .line) line && eqb (b .cycle) cycle
 
 -- (0,0) and (1..143, 0) mode 2; (0,4) mode 2 unless just turned on
 unfoldable pub scans : Beam → Bool
-scans b = (ltb (b .line) height && eqb (b .cycle) 0) || (stands b 0 4 && not (b .on))
+scans b = (ltb (b .line) height && eqb (b .cycle) 0) || (stands b 0 4 && not (b .turned))
 
 -- (0..143, 80) mode 3
 unfoldable pub renders : Beam → Bool
@@ -28,40 +29,36 @@ renders b = ltb (b .line) height && eqb (b .cycle) 80
 abbrev pub rests : Beam → Bool
 rests b = stands b height 4
 
+-- mode 2 begins: the pipe stays
+abbrev pub scanning : Pipe → Pipe
+scanning p = p
+
 -- mode 3 begins: discard = SCX modulo 8, fetch delay 8
 abbrev pub rendering : ℕ → Pipe → Pipe
-rendering scx p =
-    record {
-      fetcher = record { delay = 8; column = p .fetcher .column; row = p .fetcher .row; waiting = p .fetcher .waiting };
-      bg = p .bg;
-      obj = p .obj;
-      window = p .window;
-      wrow = p .wrow;
-      discard = scx % 8;
-    }
+rendering scx p = withDiscard (withFetcher p (withDelay (p .fetcher) 8)) (scx % 8)
 
 -- mode 1 begins: window row 0
 abbrev pub resting : Pipe → Pipe
-resting p = record { fetcher = p .fetcher; bg = p .bg; obj = p .obj; window = p .window; wrow = 0; discard = p .discard }
+resting p = withWindowRow p 0
 
 -- the state with a mode, a pipe and a mode 3 end
 abbrev pub inMode : State → ℕ → Pipe → ℕ → State
 inMode s mode p end =
-    record {
-      machine = s .machine;
-      regs = withStat (s .regs) (withMode (s .regs .stat) mode);
-      palettes = s .palettes;
-      selection = s .selection;
-      pipe = p;
-      beam = withEnd (s .beam) end;
-    }
+    withBeam (withPipe (withRegisters s (withStat (s .regs) (withMode (s .regs .stat) mode))) p) (withEnd (s .beam) end)
 
 -- each entry to mode 2 or 1 sets the mode 3 end to 0
+abbrev pub scanned : State → State
+scanned s = inMode s 2 (scanning (s .pipe)) 0
+
+abbrev pub rendered : State → State
+rendered s = inMode s 3 (rendering (s .regs .scx) (s .pipe)) (s .beam .end)
+
+abbrev pub rested : State → State
+rested s = inMode s 1 (resting (s .pipe)) 0
+
 unfoldable pub entered : State → State
 entered s =
-    cond (scans (s .beam)) (inMode s 2 (s .pipe) 0)
-    (cond (renders (s .beam)) (inMode s 3 (rendering (s .regs .scx) (s .pipe)) (s .beam .end))
-    (cond (rests (s .beam)) (inMode s 1 (resting (s .pipe)) 0) s))
+    cond (scans (s .beam)) (scanned s) (cond (renders (s .beam)) (rendered s) (cond (rests (s .beam)) (rested s) s))
 
 -- the STAT level by the mode held: mode 0, bit 3; mode 1, bit 4, and on DMG at (144,4) also bit 5; mode 2, bit 5 at cycle 0 if
 -- not DMG, at cycle 4 if DMG or line 0; mode 3, none
@@ -69,7 +66,9 @@ abbrev pub restLevel : State → Bool
 restLevel s = bitAt (s .regs .stat) 4 || ((s .machine .dmg && rests (s .beam)) && bitAt (s .regs .stat) 5)
 
 abbrev pub scanAsks : State → Bool
-scanAsks s = (eqb (s .beam .cycle) 0 && not (s .machine .dmg)) || (eqb (s .beam .cycle) 4 && (s .machine .dmg || eqb (s .beam .line) 0))
+scanAsks s =
+    (eqb (s .beam .cycle) 0 && not (s .machine .dmg))
+    || (eqb (s .beam .cycle) 4 && (s .machine .dmg || eqb (s .beam .line) 0))
 
 abbrev pub scanLevel : State → Bool
 scanLevel s = scanAsks s && bitAt (s .regs .stat) 5
@@ -80,11 +79,11 @@ modeLevel s =
     (cond (eqb (modeOf (s .regs .stat)) 1) (restLevel s) (cond (eqb (modeOf (s .regs .stat)) 2) (scanLevel s) false))
 
 -- mode 2 at cycle 4 selects sprites
+abbrev pub selected : List ℕ → State → State
+selected oam s = withSelection s (selection oam (s .beam .line) (tallOf (s .regs .lcdc)) (s .selection .slots))
+
 unfoldable pub searched : List ℕ → State → State
-searched oam s =
-    cond (eqb (modeOf (s .regs .stat)) 2 && eqb (s .beam .cycle) 4)
-    (withSelection s (selection oam (s .beam .line) (heightOf (s .regs .lcdc)) (s .selection .slots)))
-    s
+searched oam s = cond (eqb (modeOf (s .regs .stat)) 2 && eqb (s .beam .cycle) 4) (selected oam s) s
 
 -- not DMG at (144,0): bits 4 and 5 join
 abbrev pub earlyLevel : State → Bool
@@ -97,26 +96,12 @@ coincides s = eqb (s .regs .ly) (s .regs .lyc)
 unfoldable pub levelOf : Bool → State → Bool
 levelOf held s = (held || earlyLevel s) || (coincides s && bitAt (s .regs .stat) 6)
 
--- the state that knows coincidence and level; at (153,4) LY becomes 0
+-- at (153,4) LY becomes 0
+abbrev pub lyAfter : State → ℕ
+lyAfter s = cond (stands (s .beam) lastLine 4) 0 (s .regs .ly)
+
+-- the state that knows coincidence and level
 unfoldable pub compared : Bool → State → State
 compared level s =
-    record {
-      machine = s .machine;
-      regs =
-          withLy (withStat (s .regs) (withCoincidence (s .regs .stat) (coincides s)))
-          (cond (stands (s .beam) 153 4) 0 (s .regs .ly));
-      palettes = s .palettes;
-      selection = s .selection;
-      pipe = s .pipe;
-      beam =
-          record {
-            line = s .beam .line;
-            cycle = s .beam .cycle;
-            x = s .beam .x;
-            shown = s .beam .shown;
-            count = s .beam .count;
-            end = s .beam .end;
-            level = level;
-            on = s .beam .on;
-          };
-    }
+    withBeam (withRegisters s (withLy (withStat (s .regs) (withCoincidence (s .regs .stat) (coincides s))) (lyAfter s)))
+    (withLevel (s .beam) level)

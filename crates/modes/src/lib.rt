@@ -2,8 +2,10 @@
 ghost use mathlib.Core.Path.{_≡_};
 ghost use Prim.Native.Nat.{_<_};
 ghost use lib.ListN.{length};
+ghost use Rattle.hardware.specs.Tables.{oamBytes};
 ghost use Rattle.state.specs.With.{withMode, withCoincidence};
-ghost use Rattle.modes.specs.Modes.{stands, scans, renders, inMode, rendering, resting, entered, restLevel, scanAsks, scanLevel, modeLevel, searched, earlyLevel, levelOf, compared};
+ghost use Rattle.modes.specs.Modes.{stands, scans, renders, inMode, scanning, rendering, resting, entered, searched};
+ghost use Rattle.modes.specs.Modes.{restLevel, scanAsks, scanLevel, modeLevel, earlyLevel, levelOf, compared};
 use hardware::Machine;
 use state::Beam;
 use state::Pipe;
@@ -26,7 +28,7 @@ fn does_scan(b: Beam) -> bool
     if b.cycle == 0 {
         return (b.line as usize) < Machine::HEIGHT;
     }
-    if b.on {
+    if b.turned {
         return false;
     }
     stands_at(b, 0, 4)
@@ -63,6 +65,13 @@ fn in_mode(s: State, mode: u8, p: Pipe, end: u16) -> State
     n
 }
 
+// The pipe where mode 2 begins: as it is.
+fn start_scanning(p: Pipe) -> Pipe
+    ensures { λ n. ⌜ n ≡ scanning p ⌝ }
+{
+    p
+}
+
 // The pipe where mode 3 begins.
 fn start_rendering(scx: u8, p: Pipe) -> Pipe
     ensures { λ n. ⌜ n ≡ rendering scx p ⌝ }
@@ -88,20 +97,21 @@ pub fn enter_mode(s: State) -> State
     ensures { λ n. ⌜ n ≡ entered s ⌝ }
 {
     if does_scan(s.beam) {
-        let p = s.pipe;
+        let p = start_scanning(s.pipe);
         return in_mode(s, 2, p, 0);
     }
     if does_render(s.beam) {
         let p = start_rendering(s.regs.scx, s.pipe);
         return in_mode(s, 3, p, s.beam.end);
     }
-    if stands_at(s.beam, 144, 4) {
+    if stands_at(s.beam, Machine::VBLANK_LINE, 4) {
         let p = start_resting(s.pipe);
         return in_mode(s, 1, p, 0);
     }
     s
 }
 
+// What mode 1 asks.
 fn rest_level(s: State) -> bool
     ensures { λ r. ⌜ r ≡ restLevel s ⌝ }
 {
@@ -111,7 +121,7 @@ fn rest_level(s: State) -> bool
     if !s.machine.dmg {
         return false;
     }
-    if !stands_at(s.beam, 144, 4) {
+    if !stands_at(s.beam, Machine::VBLANK_LINE, 4) {
         return false;
     }
     wrap::bit(s.regs.stat, 5)
@@ -133,6 +143,7 @@ fn scan_asks(s: State) -> bool
     s.beam.line == 0
 }
 
+// What mode 2 asks.
 fn scan_level(s: State) -> bool
     ensures { λ r. ⌜ r ≡ scanLevel s ⌝ }
 {
@@ -161,7 +172,7 @@ pub fn mode_level(s: State) -> bool
 
 // Mode 2 at cycle 4 selects the sprites of the line.
 pub fn search(oam: &[u8], s: State) -> State
-    requires { ⌜ length (now oam) ≡ 160 ⌝ }
+    requires { ⌜ length (now oam) ≡ oamBytes ⌝ }
     ensures { λ n. ⌜ n ≡ searched (now (oam .entry)) s ⌝ }
 {
     if s.regs.stat % 4 != 2 {
@@ -171,7 +182,7 @@ pub fn search(oam: &[u8], s: State) -> State
         return s;
     }
     let slots = s.selection.slots;
-    let selection = sprite::select(oam, s.beam.line, pixel::height_of(s.regs.lcdc), slots);
+    let selection = sprite::select(oam, s.beam.line, pixel::tall_of(s.regs.lcdc), slots);
     let mut n = s;
     n.selection = selection;
     n
@@ -184,7 +195,7 @@ fn early_level(s: State) -> bool
     if s.machine.dmg {
         return false;
     }
-    if !stands_at(s.beam, 144, 0) {
+    if !stands_at(s.beam, Machine::VBLANK_LINE, 0) {
         return false;
     }
     if wrap::bit(s.regs.stat, 4) {
@@ -229,7 +240,7 @@ pub fn compare(level: bool, s: State) -> State
     let mut n = s;
     n.regs.stat = stat;
     n.beam.level = level;
-    if stands_at(s.beam, 153, 4) {
+    if stands_at(s.beam, Machine::LAST_LINE, 4) {
         n.regs.ly = 0;
         return n;
     }

@@ -12,23 +12,24 @@ use lib.Seq.{drop-cons, drop-length, getD-take, length-take-le}
 use Rattle.wrap.specs.Wrap.{bitAt}
 use Rattle.sprite.specs.declared.SelectedSprite.{SelectedSprite}
 use Rattle.sprite.specs.declared.Selection.{Selection}
-use Rattle.fifo.specs.Ring.{every}
-use Rattle.fifo.specs.Sprites.{spriteQueued, inked, spriteRow, spritePushed, spritePopped}
+use Rattle.logic.specs.Every.{every}
+use Rattle.fifo.specs.Sprites.{spriteQueued, inked, inkedRow, spritePushed, spritePopped}
 use Rattle.fifo.specs.declared.SpriteFifo.{SpriteFifo}
 use Rattle.fifo.specs.declared.SpriteFifoPixel.{SpriteFifoPixel}
 use Rattle.fifo.specs.declared.SpritePop.{SpritePop}
 use Rattle.fifo.specs.declared.SpritePop.the-variants.{Pixel, Nothing}
-use Rattle.fifo.proofs.Every.{both, first, second, every-map, every-all}
-use Rattle.fifo.proofs.Sprites.{sprite-row-length, sprite-pushed-slots, sprite-pushed-every, sprite-pixel-every}
+use Rattle.logic.proofs.Both.{both, first, second}
+use Rattle.logic.proofs.Every.{every-map, every-all}
+use Rattle.fifo.proofs.Sprites.{inked-row-length, sprite-pushed-slots, sprite-pushed-every, sprite-pixel-every}
 use Rattle.tiles.specs.Objects.{startsAt, spriteColours}
 use Rattle.tiles.proofs.Colours.{Small, sprite-colours}
 use Rattle.state.specs.declared.Registers.{Registers}
 use Rattle.state.specs.declared.Spot.{Spot}
 use Rattle.pixel.specs.Mixer.{Coloured}
-use Rattle.pixel.specs.Sprites.{heightOf, inkOf, spriteAdded, allAdded, spritesAdded}
+use Rattle.pixel.specs.Sprites.{tallOf, inkOf, spriteAdded, allAdded, spritesAdded}
 
 -- sprites have a height
-pub height-positive : (lcdc : ℕ) → 0 < heightOf lcdc
+pub height-positive : (lcdc : ℕ) → 0 < tallOf lcdc
 height-positive lcdc = by (bitAt lcdc 2)
   where
     by : (tall : Bool) → 0 < cond tall 16 8
@@ -37,18 +38,18 @@ height-positive lcdc = by (bitAt lcdc 2)
 
 -- a sprite pixel and a selected sprite in order
 abbrev pub pixelOrder : SpriteFifoPixel → Bool
-pixelOrder p = leb (p .color) 3 && (leb (p .dmg) 1 && leb (p .index) 39)
+pixelOrder p = leb (p .color) 3 && (leb (p .obp) 1 && leb (p .index) 39)
 
 abbrev pub slotOrder : SelectedSprite → Bool
 slotOrder s = leb (s .index) 39
 
 -- a row of a sprite in order is in order
-row-order : (ink : SpriteFifoPixel) (colours : List ℕ) → Small colours → ink .dmg ≤ 1 → ink .index ≤ 39
-    → every pixelOrder (spriteRow ink colours) ≡ true
-row-order ink colours small dmg index =
+row-order : (ink : SpriteFifoPixel) (colours : List ℕ) → Small colours → ink .obp ≤ 1 → ink .index ≤ 39
+    → every pixelOrder (inkedRow ink colours) ≡ true
+row-order ink colours small obp index =
     every-map pixelOrder (inked ink) colours
     ∙ every-all (λ (c : ℕ). pixelOrder (inked ink c)) colours 0
-    (λ k h. both (le-leb _ _ (small k)) (both (le-leb _ _ dmg) (le-leb _ _ index)))
+    (λ k h. both (le-leb _ _ (small k)) (both (le-leb _ _ obp) (le-leb _ _ index)))
 
 -- a pixel popped off a queue in order has a colour number
 pub popped-coloured : (q : SpriteFifo) → every pixelOrder (spriteQueued q) ≡ true → Coloured (spritePopped q .answer)
@@ -56,7 +57,7 @@ popped-coloured q e = by (spritePopped q .answer) refl
   where
     by : (a : SpritePop) → spritePopped q .answer ≡ a → Coloured a
     by (Pixel p) same =
-        let small : p .color ≤ 3 = leb-true _ _ (first _ (leb (p .dmg) 1 && leb (p .index) 39) (sprite-pixel-every q pixelOrder p e same)) in
+        let small : p .color ≤ 3 = leb-true _ _ (first _ (leb (p .obp) 1 && leb (p .index) 39) (sprite-pixel-every q pixelOrder p e same)) in
         omega arith
     by Nothing same = tt
 
@@ -64,7 +65,7 @@ module _ (vram : List ℕ) (r : Registers) (palettes : List ℕ) (at : Spot) whe
   -- the queue with a sprite laid into it
   abbrev laidIn : SpriteFifo → SelectedSprite → SpriteFifo
   laidIn q s =
-      spritePushed (r .coord) q (spriteRow (inkOf r palettes s) (spriteColours vram (s .sprite) (at .line) (heightOf (r .lcdc)) (at .x)))
+      spritePushed (r .coord) q (inkedRow (inkOf r palettes s) (spriteColours vram (s .sprite) (at .line) (tallOf (r .lcdc)) (at .x)))
 
   -- a sprite is laid in or not
   either : (q : SpriteFifo) (s : SelectedSprite) (P : SpriteFifo → Type 0) → P (laidIn q s) → P q → P (spriteAdded vram r palettes at q s)
@@ -106,10 +107,10 @@ module _ (vram : List ℕ) (r : Registers) (palettes : List ℕ) (at : Spot) whe
   pub added-order : (q : SpriteFifo) (s : SelectedSprite) → length (q .pixels) ≡ 8 → q .len ≤ 8 → s .index ≤ 39
       → every pixelOrder (spriteQueued q) ≡ true → every pixelOrder (spriteQueued (spriteAdded vram r palettes at q s)) ≡ true
   added-order q s slots len index e =
-      let row = spriteColours vram (s .sprite) (at .line) (heightOf (r .lcdc)) (at .x) in
-      let colours = sprite-colours vram (s .sprite) (at .line) (heightOf (r .lcdc)) (at .x) in
+      let row = spriteColours vram (s .sprite) (at .line) (tallOf (r .lcdc)) (at .x) in
+      let colours = sprite-colours vram (s .sprite) (at .line) (tallOf (r .lcdc)) (at .x) in
       either q s (λ n. every pixelOrder (spriteQueued n) ≡ true)
-      (sprite-pushed-every (r .coord) q _ pixelOrder slots (sprite-row-length (inkOf r palettes s) row ∙ colours .count) len e
+      (sprite-pushed-every (r .coord) q _ pixelOrder slots (inked-row-length (inkOf r palettes s) row ∙ colours .count) len e
       (row-order (inkOf r palettes s) row (colours .small) (omega arith) index))
       e
 

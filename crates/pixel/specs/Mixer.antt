@@ -17,18 +17,18 @@ use Rattle.state.specs.declared.Registers.{Registers}
 unfoldable pub wins : Registers → BgFifoPixel → SpriteFifoPixel → Bool
 wins r b s =
     not (eqb (s .color) 0)
-    && ((r .colour && not (bitAt (r .lcdc) 0)) || (eqb (b .color) 0 || (not (b .priority) && not (s .priority))))
+    && ((r .cgb && not (bitAt (r .lcdc) 0)) || (eqb (b .color) 0 || (not (b .priority) && not (s .priority))))
 
 -- outside colour mode a colour passes a palette byte
 abbrev pub passed : Registers → ℕ → ℕ → ℕ
-passed r byte colour = cond (r .colour) colour (shade byte colour)
+passed r byte colour = cond (r .cgb) colour (shade byte colour)
 
 -- the background's colour passes BGP, a sprite's OBP0 or OBP1
 abbrev pub bgColour : Registers → BgFifoPixel → Color
 bgColour r b = colourAt (b .palette) (passed r (r .bgp) (b .color))
 
 abbrev pub spriteColour : Registers → SpriteFifoPixel → Color
-spriteColour r s = colourAt (s .palette) (passed r (cond (eqb (s .dmg) 0) (r .obp0) (r .obp1)) (s .color))
+spriteColour r s = colourAt (s .palette) (passed r (cond (eqb (s .obp) 0) (r .obp0) (r .obp1)) (s .color))
 
 -- what is seen of a background pixel and a pop of the sprite queue
 unfoldable pub seen : Registers → BgFifoPixel → SpritePop → Color

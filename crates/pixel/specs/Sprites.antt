@@ -8,7 +8,7 @@ use Rattle.colors.specs.Palettes.{palette}
 use Rattle.sprite.specs.Oam.{greyPalette, colourPalette, behind}
 use Rattle.sprite.specs.declared.SelectedSprite.{SelectedSprite}
 use Rattle.sprite.specs.declared.Selection.{Selection}
-use Rattle.fifo.specs.Sprites.{spriteRow, spritePushed}
+use Rattle.fifo.specs.Sprites.{inkedRow, spritePushed}
 use Rattle.fifo.specs.declared.SpriteFifo.{SpriteFifo}
 use Rattle.fifo.specs.declared.SpriteFifoPixel.{SpriteFifoPixel}
 use Rattle.tiles.specs.Objects.{startsAt, spriteColours}
@@ -16,8 +16,8 @@ use Rattle.state.specs.declared.Registers.{Registers}
 use Rattle.state.specs.declared.Spot.{Spot}
 
 -- LCDC bit 2: sprites are 16 lines high, else 8
-abbrev pub heightOf : ℕ → ℕ
-heightOf lcdc = cond (bitAt lcdc 2) 16 8
+abbrev pub tallOf : ℕ → ℕ
+tallOf lcdc = cond (bitAt lcdc 2) 16 8
 
 -- which of the eight sprite palettes: by flag bits 0 to 2, outside colour mode by bit 4
 abbrev pub selector : Bool → ℕ → ℕ
@@ -28,8 +28,8 @@ abbrev pub inkOf : Registers → List ℕ → SelectedSprite → SpriteFifoPixel
 inkOf r palettes s =
     record {
       color = 0;
-      palette = palette palettes (selector (r .colour) (s .sprite .flags));
-      dmg = greyPalette (s .sprite .flags);
+      palette = palette palettes (selector (r .cgb) (s .sprite .flags));
+      obp = greyPalette (s .sprite .flags);
       index = s .index;
       priority = behind (s .sprite .flags);
     }
@@ -38,7 +38,7 @@ inkOf r palettes s =
 unfoldable pub spriteAdded : List ℕ → Registers → List ℕ → Spot → SpriteFifo → SelectedSprite → SpriteFifo
 spriteAdded vram r palettes at q s =
     cond (startsAt (s .sprite) (at .x))
-    (spritePushed (r .coord) q (spriteRow (inkOf r palettes s) (spriteColours vram (s .sprite) (at .line) (heightOf (r .lcdc)) (at .x))))
+    (spritePushed (r .coord) q (inkedRow (inkOf r palettes s) (spriteColours vram (s .sprite) (at .line) (tallOf (r .lcdc)) (at .x))))
     q
 
 -- the selected sprites in order

@@ -2,7 +2,7 @@
 ghost use mathlib.Core.Path.{_≡_};
 ghost use Prim.Native.Nat.{_<_, _≤_};
 ghost use lib.ListN.{length};
-ghost use Rattle.pixel.specs.Sprites.{heightOf, selector, inkOf, spriteAdded, spritesAdded};
+ghost use Rattle.pixel.specs.Sprites.{tallOf, selector, inkOf, spriteAdded, spritesAdded};
 ghost use Rattle.pixel.specs.Mixer.{wins, passed, bgColour, spriteColour, seen, Coloured};
 use colors::Color;
 use colors::PaletteSet;
@@ -16,8 +16,8 @@ use state::Registers;
 use state::Spot;
 
 // The height of sprites.
-pub fn height_of(lcdc: u8) -> u8
-    ensures { λ r. ⌜ r ≡ heightOf lcdc ⌝ }
+pub fn tall_of(lcdc: u8) -> u8
+    ensures { λ r. ⌜ r ≡ tallOf lcdc ⌝ }
 {
     if wrap::bit(lcdc, 2) { 16 } else { 8 }
 }
@@ -39,11 +39,11 @@ fn ink_of(r: Registers, palettes: PaletteSet, s: SelectedSprite) -> SpriteFifoPi
     ensures { λ p. ⌜ p ≡ inkOf r (palettes .bytes) s ⌝ }
 {
     let sprite = s.sprite;
-    let palette = palettes.get_palette(selector_of(r.colour, s));
+    let palette = palettes.get_palette(selector_of(r.cgb, s));
     SpriteFifoPixel {
         color: 0,
         palette,
-        dmg: sprite.dmg_palette(),
+        obp: sprite.dmg_palette(),
         index: s.index,
         priority: sprite.bg_priority(),
     }
@@ -64,7 +64,7 @@ pub fn add_sprite(
     if !tiles::starts_at(s.sprite, at.x) {
         return q;
     }
-    let colors = tiles::sprite_colors(vram, s.sprite, at.line, height_of(r.lcdc), at.x);
+    let colors = tiles::sprite_colors(vram, s.sprite, at.line, tall_of(r.lcdc), at.x);
     let ink = ink_of(r, palettes, s);
     q.push(colors, ink, r.coord)
 }
@@ -104,7 +104,7 @@ pub fn sprite_wins(r: Registers, b: BgFifoPixel, s: SpriteFifoPixel) -> bool
     if s.color == 0 {
         return false;
     }
-    if r.colour {
+    if r.cgb {
         if !wrap::bit(r.lcdc, 0) {
             return true;
         }
@@ -123,7 +123,7 @@ fn pass(r: Registers, byte: u8, color: u8) -> u8
     requires { ⌜ color < 4 ⌝ }
     ensures { λ c. ⌜ c ≡ passed r byte color ⌝ }
 {
-    if r.colour {
+    if r.cgb {
         return color;
     }
     colors::shade_of(byte, color)
@@ -142,7 +142,7 @@ fn sprite_color(r: Registers, s: SpriteFifoPixel) -> Color
     ensures { λ c. ⌜ c ≡ spriteColour r s ⌝ }
 {
     let palette = s.palette;
-    if s.dmg == 0 {
+    if s.obp == 0 {
         return palette.get_color(pass(r, r.obp0, s.color));
     }
     palette.get_color(pass(r, r.obp1, s.color))

@@ -15,13 +15,17 @@ returns : tie.Need-returns
 unfolding compared
 returns c =
     let here = sym (c .before .before .stands-at .ensures) ∙ c .before .if1 .taken in
-    rw (here, c .before .before .before .before .before .with-coincidence .ensures)
+    let known = c .before .before in
+    let start = known .before .before in
+    rw (here, start .before .with-coincidence .ensures)
 
 returns-2 : tie.Need-returns-2
 unfolding compared
 returns-2 c =
     let elsewhere = sym (c .before .stands-at .ensures) ∙ c .if1 .left in
-    rw (elsewhere, c .before .before .before .before .with-coincidence .ensures)
+    let known = c .before .before in
+    let start = known .before .before in
+    rw (elsewhere, start .with-coincidence .ensures)
 
 pub compare-spec : {M : Type 1} → statement M
 compare-spec = tie.close (tie.spec with-coincidence-requires stands-at-requires returns returns-2)

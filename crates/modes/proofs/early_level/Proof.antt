@@ -21,18 +21,21 @@ bit-requires c κs = search needs
 
 returns-3 : tie.Need-returns-3
 returns-3 c =
-    let here = sym (c .before .before .before .stands-at .ensures) ∙ not-false _ (c .before .before .if2 .left) in
+    let at = c .before .before in
+    let here = sym (at .before .stands-at .ensures) ∙ not-false _ (at .if2 .left) in
     let asks = sym (c .before .bit .ensures) ∙ c .if3 .taken in
-    rw (c .before .before .before .before .if1 .left, here, asks)
+    rw (at .before .before .if1 .left, here, asks)
 
 bit-requires-2 : tie.Need-bit-requires-2
 bit-requires-2 c κs = search needs
 
 returns-4 : tie.Need-returns-4
 returns-4 c =
-    let here = sym (c .before .before .before .before .stands-at .ensures) ∙ not-false _ (c .before .before .before .if2 .left) in
-    let quiet = sym (c .before .before .bit .ensures) ∙ c .before .if3 .left in
-    rw (c .before .before .before .before .before .if1 .left, here, quiet, c .bit2 .ensures)
+    let asked = c .before .before in
+    let at = asked .before in
+    let here = sym (at .before .stands-at .ensures) ∙ not-false _ (at .if2 .left) in
+    let quiet = sym (asked .bit .ensures) ∙ c .before .if3 .left in
+    rw (at .before .before .if1 .left, here, quiet, c .bit2 .ensures)
 
 pub early-level-spec : {M : Type 1} → statement M
 early-level-spec =

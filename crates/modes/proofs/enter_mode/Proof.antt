@@ -8,14 +8,17 @@ use Rattle.modes.proofs.enter_mode.Tie as tie
 does-scan-requires : tie.Need-does-scan-requires
 does-scan-requires c κs = search needs
 
+start-scanning-requires : tie.Need-start-scanning-requires
+start-scanning-requires c κs = search needs
+
 in-mode-requires : tie.Need-in-mode-requires
 in-mode-requires c κs = search needs
 
 returns : tie.Need-returns
 unfolding entered
 returns c =
-    let scan = sym (c .before .before .before .does-scan .ensures) ∙ c .before .before .if1 .taken in
-    rw (scan, c .in-mode .ensures)
+    let here = c .before .before in
+    rw (sym (here .before .does-scan .ensures) ∙ here .if1 .taken, c .in-mode .ensures, c .before .start-scanning .ensures)
 
 does-render-requires : tie.Need-does-render-requires
 does-render-requires c κs = search needs
@@ -29,8 +32,10 @@ in-mode-requires-2 c κs = search needs
 returns-2 : tie.Need-returns-2
 unfolding entered
 returns-2 c =
-    let scan = sym (c .before .before .before .before .before .does-scan .ensures) ∙ c .before .before .before .before .if1 .left in
-    let render = sym (c .before .before .before .does-render .ensures) ∙ c .before .before .if2 .taken in
+    let here = c .before .before in
+    let past = here .before .before in
+    let scan = sym (past .before .does-scan .ensures) ∙ past .if1 .left in
+    let render = sym (here .before .does-render .ensures) ∙ here .if2 .taken in
     rw (scan, render, c .in-mode2 .ensures, c .before .start-rendering .ensures)
 
 stands-at-requires : tie.Need-stands-at-requires
@@ -45,16 +50,21 @@ in-mode-requires-3 c κs = search needs
 returns-3 : tie.Need-returns-3
 unfolding entered
 returns-3 c =
-    let scan = sym (c .before .before .before .before .before .before .before .does-scan .ensures) ∙ c .before .before .before .before .before .before .if1 .left in
-    let render = sym (c .before .before .before .before .before .does-render .ensures) ∙ c .before .before .before .before .if2 .left in
-    let rest = sym (c .before .before .before .stands-at .ensures) ∙ c .before .before .if3 .taken in
+    let here = c .before .before in
+    let late = here .before .before in
+    let past = late .before .before in
+    let scan = sym (past .before .does-scan .ensures) ∙ past .if1 .left in
+    let render = sym (late .before .does-render .ensures) ∙ late .if2 .left in
+    let rest = sym (here .before .stands-at .ensures) ∙ here .if3 .taken in
     rw (scan, render, rest, c .in-mode3 .ensures, c .before .start-resting .ensures)
 
 returns-4 : tie.Need-returns-4
 unfolding entered
 returns-4 c =
-    let scan = sym (c .before .before .before .before .before .does-scan .ensures) ∙ c .before .before .before .before .if1 .left in
-    let render = sym (c .before .before .before .does-render .ensures) ∙ c .before .before .if2 .left in
+    let late = c .before .before in
+    let past = late .before .before in
+    let scan = sym (past .before .does-scan .ensures) ∙ past .if1 .left in
+    let render = sym (late .before .does-render .ensures) ∙ late .if2 .left in
     let rest = sym (c .before .stands-at .ensures) ∙ c .if3 .left in
     rw (scan, render, rest)
 
@@ -63,6 +73,7 @@ enter-mode-spec =
     tie.close
     (tie.spec
     does-scan-requires
+    start-scanning-requires
     in-mode-requires
     returns
     does-render-requires

@@ -22,8 +22,9 @@ returns-2 c =
 returns-3 : tie.Need-returns-3
 unfolding levelOf
 returns-3 c =
-    let early = sym (c .before .before .before .early-level .ensures) ∙ c .before .before .if2 .left in
-    rw (c .before .before .before .before .if1 .left, early, ne-eqb _ _ (c .if3 .taken))
+    let late = c .before .before in
+    let early = sym (late .before .early-level .ensures) ∙ late .if2 .left in
+    rw (late .before .before .if1 .left, early, ne-eqb _ _ (c .if3 .taken))
 
 bit-requires : tie.Need-bit-requires
 bit-requires c κs = search needs
@@ -31,8 +32,10 @@ bit-requires c κs = search needs
 returns-4 : tie.Need-returns-4
 unfolding levelOf
 returns-4 c =
-    let early = sym (c .before .before .before .before .early-level .ensures) ∙ c .before .before .before .if2 .left in
-    rw (c .before .before .before .before .before .if1 .left, early, eq-eqb _ _ (c .before .if3 .left), c .bit .ensures)
+    let equal = c .before in
+    let late = equal .before .before in
+    let early = sym (late .before .early-level .ensures) ∙ late .if2 .left in
+    rw (late .before .before .if1 .left, early, eq-eqb _ _ (equal .if3 .left), c .bit .ensures)
 
 pub level-of-spec : {M : Type 1} → statement M
 level-of-spec =

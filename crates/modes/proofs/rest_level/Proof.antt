@@ -15,26 +15,32 @@ returns c =
 
 returns-2 : tie.Need-returns-2
 returns-2 c =
-    let quiet = sym (c .before .before .before .bit .ensures) ∙ c .before .before .if1 .left in
-    rw (quiet, not-true (c .before .before .before .before .args .s .machine .dmg) (c .if2 .taken))
+    let asked = c .before .before in
+    let quiet = sym (asked .before .bit .ensures) ∙ asked .if1 .left in
+    rw (quiet, not-true (asked .before .before .args .s .machine .dmg) (c .if2 .taken))
 
 stands-at-requires : tie.Need-stands-at-requires
 stands-at-requires c κs = search needs
 
 returns-3 : tie.Need-returns-3
 returns-3 c =
-    let quiet = sym (c .before .before .before .before .before .bit .ensures) ∙ c .before .before .before .before .if1 .left in
+    let first = c .before .before in
+    let asked = first .before .before in
+    let quiet = sym (asked .before .bit .ensures) ∙ asked .if1 .left in
     let elsewhere = sym (c .before .stands-at .ensures) ∙ not-true _ (c .if3 .taken) in
-    rw (quiet, not-false (c .before .before .before .before .before .before .args .s .machine .dmg) (c .before .before .if2 .left), elsewhere)
+    rw (quiet, not-false (asked .before .before .args .s .machine .dmg) (first .if2 .left), elsewhere)
 
 bit-requires-2 : tie.Need-bit-requires-2
 bit-requires-2 c κs = search needs
 
 returns-4 : tie.Need-returns-4
 returns-4 c =
-    let quiet = sym (c .before .before .before .before .before .before .bit .ensures) ∙ c .before .before .before .before .before .if1 .left in
-    let here = sym (c .before .before .stands-at .ensures) ∙ not-false _ (c .before .if3 .left) in
-    rw (quiet, not-false (c .before .before .before .before .before .before .before .args .s .machine .dmg) (c .before .before .before .if2 .left), here, c .bit2 .ensures)
+    let at = c .before in
+    let first = at .before .before in
+    let asked = first .before .before in
+    let quiet = sym (asked .before .bit .ensures) ∙ asked .if1 .left in
+    let here = sym (at .before .stands-at .ensures) ∙ not-false _ (at .if3 .left) in
+    rw (quiet, not-false (asked .before .before .args .s .machine .dmg) (first .if2 .left), here, c .bit2 .ensures)
 
 pub rest-level-spec : {M : Type 1} → statement M
 rest-level-spec =

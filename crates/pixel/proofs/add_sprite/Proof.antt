@@ -13,13 +13,13 @@ returns : tie.Need-returns
 unfolding spriteAdded
 returns c = rw (← c .before .starts-at .ensures, not-true (c .before .starts-at .result) (c .if1 .taken))
 
-height-of-requires : tie.Need-height-of-requires
-height-of-requires c κs = search needs
+tall-of-requires : tie.Need-tall-of-requires
+tall-of-requires c κs = search needs
 
 sprite-colors-requires : tie.Need-sprite-colors-requires
 sprite-colors-requires c κs =
     let s = c .before .before .before .before in
-    (s .pre .0, rw (c .height-of .ensures) (height-positive (s .args .r .lcdc)))
+    (s .pre .0, rw (c .tall-of .ensures) (height-positive (s .args .r .lcdc)))
 
 ink-of-requires : tie.Need-ink-of-requires
 ink-of-requires c κs = search needs
@@ -31,7 +31,7 @@ returns-2 : tie.Need-returns-2
 unfolding spriteAdded
 returns-2 c =
     let b = c .before .before .before in
-    rw (c .push .ensures, c .before .ink-of .ensures, c .before .before .sprite-colors .ensures, b .height-of .ensures, ← b .before .before .starts-at .ensures, not-false (b .before .before .starts-at .result) (b .before .if1 .left))
+    rw (c .push .ensures, c .before .ink-of .ensures, c .before .before .sprite-colors .ensures, b .tall-of .ensures, ← b .before .before .starts-at .ensures, not-false (b .before .before .starts-at .result) (b .before .if1 .left))
 
 pub add-sprite-spec : {M : Type 1} → statement M
 add-sprite-spec =
@@ -39,7 +39,7 @@ add-sprite-spec =
     (tie.spec
     starts-at-requires
     returns
-    height-of-requires
+    tall-of-requires
     sprite-colors-requires
     ink-of-requires
     push-requires

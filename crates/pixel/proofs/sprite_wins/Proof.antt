@@ -31,14 +31,14 @@ unfolding wins
 returns-3 c =
     let b = c .before .before .before in
     let r = b .before .before .args .r in
-    rw (ne-eqb _ _ (b .if1 .left), eq-eqb _ _ (c .if4 .taken)) (or-true (r .colour && not (bitAt (r .lcdc) 0)))
+    rw (ne-eqb _ _ (b .if1 .left), eq-eqb _ _ (c .if4 .taken)) (or-true (r .cgb && not (bitAt (r .lcdc) 0)))
 
 returns-4 : tie.Need-returns-4
 unfolding wins
 returns-4 c =
     let j = c .before .before .before in
     let r = j .before .before .before .args .r in
-    let shown : r .colour && not (bitAt (r .lcdc) 0) ≡ false =
+    let shown : r .cgb && not (bitAt (r .lcdc) 0) ≡ false =
     ⊎-elim (λ w. rw (w .0 .taken, ← w .1 .ensures, w .2 .left)) (λ w. rw (w .left)) (j .if2 .came)
     in
     rw (ne-eqb _ _ (j .before .if1 .left), shown, ne-eqb _ _ (c .before .if4 .left), c .if5 .taken)
@@ -48,7 +48,7 @@ unfolding wins
 returns-5 c =
     let j = c .before .before .before .before in
     let r = j .before .before .before .args .r in
-    let shown : r .colour && not (bitAt (r .lcdc) 0) ≡ false =
+    let shown : r .cgb && not (bitAt (r .lcdc) 0) ≡ false =
     ⊎-elim (λ w. rw (w .0 .taken, ← w .1 .ensures, w .2 .left)) (λ w. rw (w .left)) (j .if2 .came)
     in
     rw (ne-eqb _ _ (j .before .if1 .left), shown, ne-eqb _ _ (c .before .before .if4 .left), c .before .if5 .left)
