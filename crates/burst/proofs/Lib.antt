@@ -1,3 +1,5 @@
 -- The laws of `burst` that belong to no one function.
-pub mod Left
+-- a run of draws by its mode, and what each draw answers
+pub mod Ways
+-- what a run keeps: the order, line, cycle, the picture shown and LCDC
 pub mod Keep

@@ -1,10 +1,9 @@
 // The draws of a step, and the places that they store.
 ghost use mathlib.Core.Path.{_≡_};
-ghost use mathlib.Core.Bool.{true};
 ghost use lib.ListN.{length};
 ghost use Rattle.hardware.specs.Screen.{pictureBytes};
-ghost use Rattle.state.specs.Shape.{Shaped};
-ghost use Rattle.order.specs.Order.{inOrder};
+ghost use Rattle.hardware.specs.Tables.{vramBytes};
+ghost use Rattle.order.specs.Fine.{Fine};
 ghost use Rattle.burst.specs.Burst.{OnScreen, shotStored, Drew};
 use draw::Shot;
 use state::State;
@@ -22,7 +21,7 @@ pub fn store_shot(picture: &mut [u8], shot: Shot)
 
 // Draws once a cycle while mode 3 lasts, and stores each place.
 pub fn draw_all(vram: &[u8], s: State, picture: &mut [u8], cycles: u8) -> State
-    requires { ⌜ (length (now vram) ≡ 16384) × (length (now picture) ≡ pictureBytes) × Shaped s × (inOrder s ≡ true) ⌝ }
+    requires { ⌜ (length (now vram) ≡ vramBytes) × (length (now picture) ≡ pictureBytes) × Fine s ⌝ }
     ensures { λ n. ⌜ Drew cycles (now (vram .entry)) s (now (picture .entry)) n (now (picture .exit)) ⌝ }
 {
     let mut state = s;

@@ -1,3 +1,5 @@
 -- The laws of `draw` that belong to no one function.
-pub mod Keeps
-pub mod Order
+-- the ways of a draw, by state and answer
+pub mod Ways
+-- the parts of a draw keep a state in order
+pub mod Fine

@@ -1,13 +1,13 @@
 // One draw: the pipe goes on, then a discard or a pixel, and the end of a line. It touches no picture.
 ghost use mathlib.Core.Path.{_≡_};
-ghost use mathlib.Core.Bool.{true};
-ghost use Prim.Native.Nat.{_<_, _≤_};
+ghost use Prim.Native.Nat.{_<_};
 ghost use lib.ListN.{length};
-ghost use Rattle.state.specs.Shape.{Shaped};
-ghost use Rattle.order.specs.Order.{inOrder};
-ghost use Rattle.order.specs.Sound.{Sound};
 ghost use Rattle.hardware.specs.Screen.{width};
-ghost use Rattle.draw.specs.Draw.{Selected, spot, fedPipe, discarded, moved, endedBeam, endedRegisters, endedPipe, afterPixel, pixelDrawn, shifted, drawn};
+ghost use Rattle.hardware.specs.Tables.{vramBytes};
+ghost use Rattle.order.specs.Fine.{Fine};
+ghost use Rattle.pipe.specs.Window.{opened};
+ghost use Rattle.draw.specs.Draw.{Drawable, spot, fedPipe, discarded, moved, endedBeam, endedRegisters, endedPipe, afterPixel};
+ghost use Rattle.draw.specs.Draw.{pixelDrawn, shifted, drawn};
 use hardware::Machine;
 use lcd::Rgb;
 use state::Beam;
@@ -39,12 +39,12 @@ fn spot_of(s: State) -> Spot
 
 // The pipe once the window was tried, the fetcher went on and a waiting row went in.
 fn advance(vram: &[u8], s: State) -> Pipe
-    requires { ⌜ length (now vram) ≡ 16384 ⌝ }
-    ensures { λ r. ⌜ r ≡ fedPipe (now (vram .entry)) s ⌝ }
+    requires { ⌜ length (now vram) ≡ vramBytes ⌝ }
+    ensures { λ r. ⌜ r ≡ fedPipe (opened (s .regs) (s .beam .line)) (now (vram .entry)) s ⌝ }
 {
-    let at = spot_of(s);
-    let windowed = pipe::try_enter_window(s.regs, at, s.pipe);
-    let fetched = pipe::cycle_fetcher(vram, s.regs, at.line, windowed);
+    let allowed = pipe::is_open(s.regs, s.beam.line);
+    let windowed = pipe::try_enter_window(allowed, s.beam.x, s.regs.wx, s.pipe);
+    let fetched = pipe::cycle_fetcher(vram, s.regs, s.beam.line, windowed);
     pipe::feed(s.palettes.bg, fetched)
 }
 
@@ -90,6 +90,7 @@ fn end_beam(b: Beam) -> Beam
     n
 }
 
+// The registers at the end of a line: mode 0.
 fn end_registers(r: Registers) -> Registers
     ensures { λ n. ⌜ n ≡ endedRegisters r ⌝ }
 {
@@ -102,12 +103,7 @@ fn end_registers(r: Registers) -> Registers
 fn end_pipe(p: Pipe) -> Pipe
     ensures { λ n. ⌜ n ≡ endedPipe p ⌝ }
 {
-    let bg = p.bg.clear();
-    let obj = p.obj.clear();
-    let mut n = p;
-    n.bg = bg;
-    n.obj = obj;
-    n.fetcher.column = 0;
+    let mut n = pipe::empty(p);
     n.window = false;
     if p.window {
         n.wrow = wrap::wrapping_sub(p.wrow, 255);
@@ -139,7 +135,7 @@ fn after_pixel(s: State, p: Pipe) -> State
 
 // A pixel: the sprites that start here, both queues pop, and the mixer's colour at its place.
 fn draw_pixel(vram: &[u8], s: State, p: Pipe) -> Drawn
-    requires { ⌜ (length (now vram) ≡ 16384) × (s .beam .x < width) × Selected (s .selection) × Sound p × (0 < p .bg .len) ⌝ }
+    requires { ⌜ Drawable (now vram) s p × (0 < p .bg .len) ⌝ }
     ensures { λ d. ⌜ d ≡ pixelDrawn (now (vram .entry)) s p ⌝ }
 {
     let queue = pixel::add_sprites(vram, s.regs, s.palettes.obj, s.selection, spot_of(s), p.obj);
@@ -161,7 +157,7 @@ fn draw_pixel(vram: &[u8], s: State, p: Pipe) -> Drawn
 
 // More than 8 queued: a discard or a pixel; else nothing.
 fn shift(vram: &[u8], s: State, p: Pipe) -> Drawn
-    requires { ⌜ (length (now vram) ≡ 16384) × (s .beam .x < width) × Selected (s .selection) × Sound p ⌝ }
+    requires { ⌜ Drawable (now vram) s p ⌝ }
     ensures { λ d. ⌜ d ≡ shifted (now (vram .entry)) s p ⌝ }
 {
     let mut n = s;
@@ -185,7 +181,7 @@ fn shift(vram: &[u8], s: State, p: Pipe) -> Drawn
 
 // One draw: the next state, and a place with its bytes or nothing.
 pub fn draw(vram: &[u8], s: State) -> Drawn
-    requires { ⌜ (length (now vram) ≡ 16384) × Shaped s × (inOrder s ≡ true) ⌝ }
+    requires { ⌜ (length (now vram) ≡ vramBytes) × Fine s ⌝ }
     ensures { λ d. ⌜ d ≡ drawn (now (vram .entry)) s ⌝ }
 {
     let p = advance(vram, s);

@@ -14,15 +14,19 @@ returns c = search needs
 
 store-requires : tie.Need-store-requires
 store-requires c κs =
-    let s = c .before .before .before .before .before in
-    let o = rw (c .before .before .shot .given .1) at (s .pre .1) in
-    (s .pre .0, o .0, o .1)
+    let known = c .before .before in
+    let start = known .before .before in
+    let o = rw (known .shot .given .1) at (start .before .pre .1) in
+    (start .before .pre .0, o .0, o .1)
 
 same-length : tie.Need-same-length
 same-length c = search needs
 
 returns-2 : tie.Need-returns-2
-returns-2 c = rw (c .before .before .before .before .before .shot .given .1) (c .before .before .store .ensures)
+returns-2 c =
+    let stored = c .before .before in
+    let known = stored .before .before in
+    rw (known .before .shot .given .1) (stored .store .ensures)
 
 pub store-shot-spec : {M : Type 1} → statement M
 store-shot-spec =

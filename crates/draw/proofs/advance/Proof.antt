@@ -4,8 +4,8 @@ use borrow.Author.Needs.{needs}
 use Rattle.draw.proofs.advance.Statement.{statement}
 use Rattle.draw.proofs.advance.Tie as tie
 
-spot-of-requires : tie.Need-spot-of-requires
-spot-of-requires c κs = search needs
+is-open-requires : tie.Need-is-open-requires
+is-open-requires c κs = search needs
 
 try-enter-window-requires : tie.Need-try-enter-window-requires
 try-enter-window-requires c κs = search needs
@@ -18,14 +18,12 @@ feed-requires c κs = search needs
 
 returns : tie.Need-returns
 unfolding fedPipe
-returns c = rw (c .feed .ensures, c .before .cycle-fetcher .ensures, c .before .before .try-enter-window .ensures, c .before .before .before .spot-of .ensures)
+returns c =
+    let fetched = c .before in
+    let tried = fetched .before in
+    rw (c .feed .ensures, fetched .cycle-fetcher .ensures, tried .try-enter-window .ensures, tried .before .is-open .ensures)
 
 pub advance-spec : {M : Type 1} → statement M
 advance-spec =
     tie.close
-    (tie.spec
-    spot-of-requires
-    try-enter-window-requires
-    cycle-fetcher-requires
-    feed-requires
-    returns)
+    (tie.spec is-open-requires try-enter-window-requires cycle-fetcher-requires feed-requires returns)

@@ -22,7 +22,9 @@ end-beam-requires c κs = search needs
 
 returns : tie.Need-returns
 unfolding afterPixel
-returns c = rw (eq-eqb _ _ (c .before .before .before .if1 .taken), c .end-beam .ensures, c .before .end-pipe .ensures, c .before .before .end-registers .ensures)
+returns c =
+    let dark = c .before .before in
+    rw (eq-eqb _ _ (dark .before .if1 .taken), c .end-beam .ensures, c .before .end-pipe .ensures, dark .end-registers .ensures)
 
 next-place-requires : tie.Need-next-place-requires
 next-place-requires c κs = search needs

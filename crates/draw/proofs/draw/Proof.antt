@@ -1,6 +1,5 @@
 -- `draw::draw` meets its contract.
-use Rattle.order.proofs.Clauses.{clauses}
-use Rattle.draw.proofs.Keeps.{sound-of, selected-of, fed-pipe-sound}
+use Rattle.draw.proofs.Fine.{fed-pipe-fine}
 use borrow.Author.Needs.{needs}
 use Rattle.draw.proofs.draw.Statement.{statement}
 use Rattle.draw.proofs.draw.Tie as tie
@@ -10,10 +9,10 @@ advance-requires c κs = search needs
 
 shift-requires : tie.Need-shift-requires
 shift-requires c κs =
-    let b = c .before .before in
-    let o = clauses (b .args .s) (b .pre .2) in
-    let p = fed-pipe-sound (b .args .vram .now) (b .args .s) (sound-of (b .pre .1) o) in
-    (b .pre .0, o .x, selected-of o, rw (c .advance .ensures) p)
+    let start = c .before .before in
+    let f = start .pre .1 in
+    let p = fed-pipe-fine _ (start .args .vram .now) (start .args .s) (f .pipe) in
+    record { size = start .pre .0; x = f .beam .x; selection = f .selection; pipe = rw (c .advance .ensures) p }
 
 returns : tie.Need-returns
 returns c = rw (c .shift .ensures, c .before .advance .ensures)

@@ -1,7 +1,7 @@
 -- `draw::draw_pixel` meets its contract.
-use Rattle.draw.proofs.Keeps.{front-coloured, ready-order}
+use Rattle.draw.proofs.Fine.{front-coloured, ready-fine}
 use Rattle.pixel.proofs.Added.{popped-coloured}
-use Rattle.draw.specs.Draw.{shade, ready}
+use Rattle.draw.specs.Draw.{pixelBytes, ready}
 use borrow.Author.Needs.{needs}
 use Rattle.draw.proofs.draw_pixel.Statement.{statement}
 use Rattle.draw.proofs.draw_pixel.Tie as tie
@@ -10,7 +10,9 @@ spot-of-requires : tie.Need-spot-of-requires
 spot-of-requires c κs = search needs
 
 add-sprites-requires : tie.Need-add-sprites-requires
-add-sprites-requires c κs = search needs
+add-sprites-requires c κs =
+    let d = c .before .before .pre .0 in
+    (d .size, d .pipe .obj .len, d .selection .count)
 
 pop-requires : tie.Need-pop-requires
 pop-requires c κs = search needs
@@ -21,11 +23,13 @@ pop-requires-2 c κs = search needs
 mixer-requires : tie.Need-mixer-requires
 unfolding ready
 mixer-requires c κs =
-    let b = c .before .before .before .before .before in
-    let q = c .before .before .add-sprites .ensures in
-    let laid = ready-order (b .args .vram .now) (b .args .s) (b .pre .2) (b .pre .3) in (
-      rw (c .before .pop .ensures) (front-coloured (b .pre .3) (b .pre .4)),
-      rw (c .pop2 .ensures, q, c .before .before .before .spot-of .ensures) (popped-coloured _ laid),
+    let added = c .before .before in
+    let at = added .before in
+    let start = at .before .before in
+    let d = start .pre .0 in
+    let laid = ready-fine (start .args .vram .now) (start .args .s) (start .args .p) (d .selection) (d .pipe .obj) in (
+      rw (c .before .pop .ensures) (front-coloured (d .pipe .bg) (start .pre .1)),
+      rw (c .pop2 .ensures, added .add-sprites .ensures, at .spot-of .ensures) (popped-coloured _ (laid .pixels)),
     )
 
 after-pixel-requires : tie.Need-after-pixel-requires
@@ -35,10 +39,15 @@ mixed-requires : tie.Need-mixed-requires
 mixed-requires c κs = search needs
 
 returns : tie.Need-returns
-unfolding shade ready
+unfolding pixelBytes ready
 returns c =
+    let seen = c .before .before in
+    let mixed = seen .before .before in
+    let sprite = mixed .before in
+    let front = sprite .before in
+    let added = front .before in
     rw
-    (c .mixed .ensures, c .before .after-pixel .ensures, c .before .before .before .before .mixer .ensures, c .before .before .before .before .before .pop2 .ensures, c .before .before .before .before .before .before .pop .ensures, c .before .before .before .before .before .before .before .add-sprites .ensures, c .before .before .before .before .before .before .before .before .spot-of .ensures)
+    (c .mixed .ensures, c .before .after-pixel .ensures, mixed .mixer .ensures, sprite .pop2 .ensures, front .pop .ensures, added .add-sprites .ensures, added .before .spot-of .ensures)
 
 pub draw-pixel-spec : {M : Type 1} → statement M
 draw-pixel-spec =

@@ -14,14 +14,18 @@ draw-pixel-requires c κs = search needs
 
 returns-2 : tie.Need-returns-2
 unfolding shifted
-returns-2 c = rw (c .draw-pixel .ensures, lt-leb _ _ (c .before .before .before .if1 .left), eq-eqb _ _ (c .before .if2 .taken))
+returns-2 c =
+    let many = c .before .before in
+    rw (c .draw-pixel .ensures, lt-leb _ _ (many .before .if1 .left), eq-eqb _ _ (c .before .if2 .taken))
 
 discard-one-requires : tie.Need-discard-one-requires
 discard-one-requires c κs = search needs
 
 returns-3 : tie.Need-returns-3
 unfolding shifted
-returns-3 c = rw (c .discard-one .ensures, lt-leb _ _ (c .before .before .before .if1 .left), ne-eqb _ _ (c .before .if2 .left))
+returns-3 c =
+    let many = c .before .before in
+    rw (c .discard-one .ensures, lt-leb _ _ (many .before .if1 .left), ne-eqb _ _ (c .before .if2 .left))
 
 pub shift-spec : {M : Type 1} → statement M
 shift-spec =
