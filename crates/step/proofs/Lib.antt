@@ -1,2 +1,3 @@
 -- The laws of `step` that belong to no one function.
+-- what the parts of a step keep: the order, and where the beam stands
 pub mod Keeps

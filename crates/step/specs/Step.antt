@@ -4,12 +4,13 @@ use mathlib.Core.Path.{_≡_}
 use mathlib.Core.Bool.{Bool, false, not, cond, _&&_}
 use mathlib.Core.List.{List, []}
 use Rattle.wrap.specs.Wrap.{bitAt}
-use Rattle.lcd.specs.Pictures.{chosen}
+use Rattle.hardware.specs.Tables.{Tables}
+use Rattle.lcd.specs.Pictures.{Pictures}
 use Rattle.state.specs.With.{modeOf}
 use Rattle.state.specs.declared.State.{State}
 use Rattle.draw.specs.declared.Shot.{Shot}
 use Rattle.modes.specs.Modes.{entered, modeLevel, searched, levelOf, compared, rests}
-use Rattle.burst.specs.Burst.{Burst, burst, allStored}
+use Rattle.burst.specs.Burst.{Burst, burst, drawnInto}
 use Rattle.beam.specs.Advance.{swaps, advanced, whole}
 use Rattle.step.specs.declared.Report.{Report}
 
@@ -18,31 +19,28 @@ abbrev pub lit : State → Bool
 lit s = bitAt (s .regs .lcdc) 7
 
 -- 1 and 2: the mode that begins, the sprites that a line selects, and the draws of the step, none outside mode 3
-unfoldable pub working : ℕ → List ℕ → List ℕ → State → Burst
-working n vram oam s = burst n vram (searched oam (entered s))
+unfoldable pub working : ℕ → Tables → State → Burst
+working n t s = burst n (t .vram) (searched (t .oam) (entered s))
 
 -- 2 to 4: the level by the mode held, and what joins it
-unfoldable pub newLevel : ℕ → List ℕ → List ℕ → State → Bool
-newLevel n vram oam s = levelOf (modeLevel (entered s)) (working n vram oam s .state)
+unfoldable pub newLevel : ℕ → Tables → State → Bool
+newLevel n t s = levelOf (modeLevel (entered s)) (working n t s .state)
 
 -- the state before the cycle advances
-unfoldable pub settled : ℕ → List ℕ → List ℕ → State → State
-settled n vram oam s = compared (newLevel n vram oam s) (working n vram oam s .state)
+unfoldable pub settled : ℕ → Tables → State → State
+settled n t s = compared (newLevel n t s) (working n t s .state)
 
 -- 5: the state after a step; while off a step changes nothing
-unfoldable pub stepped : ℕ → List ℕ → List ℕ → State → State
-stepped n vram oam s = cond (lit s) (advanced n (settled n vram oam s)) s
+unfoldable pub stepped : ℕ → Tables → State → State
+stepped n t s = cond (lit s) (advanced n (settled n t s)) s
 
 -- what the draws of a step answered, in order
-unfoldable pub shotsOf : ℕ → List ℕ → List ℕ → State → List Shot
-shotsOf n vram oam s = cond (lit s) (working n vram oam s .shots) []
+unfoldable pub shotsOf : ℕ → Tables → State → List Shot
+shotsOf n t s = cond (lit s) (working n t s .shots) []
 
 -- they are stored in the picture that is not shown
-abbrev pub pictureA : ℕ → List ℕ → List ℕ → State → List ℕ → List ℕ
-pictureA n vram oam s a = chosen (s .beam .shown) a (allStored a (shotsOf n vram oam s))
-
-abbrev pub pictureB : ℕ → List ℕ → List ℕ → State → List ℕ → List ℕ
-pictureB n vram oam s b = chosen (s .beam .shown) (allStored b (shotsOf n vram oam s)) b
+abbrev pub picturesAfter : ℕ → Tables → State → Pictures → Pictures
+picturesAfter n t s p = drawnInto (s .beam .shown) (shotsOf n t s) p
 
 -- request bits: 1 VBlank at (144,4), 2 STAT if the level rose
 abbrev pub requests : State → State → ℕ
@@ -73,13 +71,11 @@ offReport s =
       count = s .beam .count;
     }
 
-unfoldable pub report : ℕ → List ℕ → List ℕ → State → Report
-report n vram oam s =
-    cond (lit s) (reportOf n s (settled n vram oam s) (advanced n (settled n vram oam s))) (offReport s)
+unfoldable pub report : ℕ → Tables → State → Report
+report n t s = cond (lit s) (reportOf n s (settled n t s) (advanced n (settled n t s))) (offReport s)
 
 -- a step: its answer, the state, and both pictures
-pub record StepTaken (n : ℕ) (vram oam : List ℕ) (s : State) (a b : List ℕ) (r : Report) (u : State) (a′ b′ : List ℕ) : Type 0 where
-  pub answer : r ≡ report n vram oam s
-  pub state : u ≡ stepped n vram oam s
-  pub shownA : a′ ≡ pictureA n vram oam s a
-  pub shownB : b′ ≡ pictureB n vram oam s b
+pub record StepTaken (n : ℕ) (t : Tables) (s : State) (p : Pictures) (r : Report) (u : State) (p′ : Pictures) : Type 0 where
+  pub answer : r ≡ report n t s
+  pub state : u ≡ stepped n t s
+  pub pictures : p′ ≡ picturesAfter n t s p

@@ -1,13 +1,15 @@
 // One step: the mode that begins, the draws with their places, the STAT level, the beam, and the answer.
 ghost use mathlib.Core.Path.{_≡_};
-ghost use mathlib.Core.Bool.{true, not, _&&_};
+ghost use mathlib.Core.Bool.{not, _&&_};
 ghost use Prim.Native.Nat.{_<_, _≤_, _+_};
 ghost use lib.ListN.{length};
-ghost use Rattle.hardware.specs.Screen.{pictureBytes, lineCycles, frameLines};
-ghost use Rattle.state.specs.Shape.{Shaped};
-ghost use Rattle.order.specs.Order.{inOrder};
+ghost use Rattle.hardware.specs.Screen.{lineCycles, frameLines};
+ghost use Rattle.hardware.specs.Tables.{vramBytes, tables};
+ghost use Rattle.lcd.specs.Pictures.{pictures, PicturesSized};
+ghost use Rattle.order.specs.Fine.{Fine};
 ghost use Rattle.step.specs.Step.{requests, reportOf, offReport, StepTaken};
-ghost use Rattle.step.specs.Work.{Worked, Settled};
+ghost use Rattle.step.specs.Work.{Steppable, Worked, Settled};
+use hardware::Machine;
 use state::State;
 
 // What a step answers: 01's request bits (1 VBlank, 2 STAT), the mode, the coincidence, LY, whether it swapped, whether the
@@ -22,6 +24,7 @@ pub struct Report {
     pub count: u16,
 }
 
+// What a step answers, and the state after it.
 pub struct Stepped {
     pub report: Report,
     pub state: State,
@@ -29,8 +32,9 @@ pub struct Stepped {
 
 // The draws of the step, into the picture that is not shown.
 fn draw_hidden(vram: &[u8], s: State, a: &mut [u8], b: &mut [u8], cycles: u8) -> State
-    requires { ⌜ (length (now vram) ≡ 16384) × (length (now a) ≡ pictureBytes) × (length (now b) ≡ pictureBytes) × Shaped s × (inOrder s ≡ true) ⌝ }
-    ensures { λ n. ⌜ Worked cycles (now (vram .entry)) s (now (a .entry)) (now (b .entry)) n (now (a .exit)) (now (b .exit)) ⌝ }
+    requires { ⌜ (length (now vram) ≡ vramBytes) × PicturesSized (pictures (now a) (now b)) × Fine s ⌝ }
+    ensures { λ n. ⌜ Worked cycles (now (vram .entry)) s (pictures (now (a .entry)) (now (b .entry))) n
+        (pictures (now (a .exit)) (now (b .exit))) ⌝ }
 {
     if s.beam.shown == 0 {
         return burst::draw_all(vram, s, b, cycles);
@@ -40,8 +44,9 @@ fn draw_hidden(vram: &[u8], s: State, a: &mut [u8], b: &mut [u8], cycles: u8) ->
 
 // The step up to the point where the cycle advances.
 fn settle(s: State, vram: &[u8], oam: &[u8], a: &mut [u8], b: &mut [u8], cycles: u8) -> State
-    requires { ⌜ (length (now vram) ≡ 16384) × (length (now oam) ≡ 160) × (length (now a) ≡ pictureBytes) × (length (now b) ≡ pictureBytes) × Shaped s × (inOrder s ≡ true) ⌝ }
-    ensures { λ n. ⌜ Settled cycles (now (vram .entry)) (now (oam .entry)) s (now (a .entry)) (now (b .entry)) n (now (a .exit)) (now (b .exit)) ⌝ }
+    requires { ⌜ Steppable (tables (now vram) (now oam)) (pictures (now a) (now b)) s ⌝ }
+    ensures { λ n. ⌜ Settled cycles (tables (now (vram .entry)) (now (oam .entry))) s (pictures (now (a .entry)) (now (b .entry))) n
+        (pictures (now (a .exit)) (now (b .exit))) ⌝ }
 {
     let held = modes::enter_mode(s);
     let ready = modes::search(oam, held);
@@ -64,7 +69,7 @@ fn rises(old: bool, new: bool) -> bool
 fn requests_of(s: State, t: State) -> u8
     ensures { λ r. ⌜ r ≡ requests s t ⌝ }
 {
-    let vblank = modes::stands_at(s.beam, 144, 4);
+    let vblank = modes::stands_at(s.beam, Machine::VBLANK_LINE, 4);
     if rises(s.beam.level, t.beam.level) {
         if vblank {
             return 3;
@@ -110,8 +115,9 @@ fn off_report(s: State) -> Report
 
 // One step of a state in order, by a number of cycles that does not pass the end of a line.
 pub fn step(s: State, vram: &[u8], oam: &[u8], a: &mut [u8], b: &mut [u8], cycles: u8) -> Stepped
-    requires { ⌜ (length (now vram) ≡ 16384) × (length (now oam) ≡ 160) × (length (now a) ≡ pictureBytes) × (length (now b) ≡ pictureBytes) × Shaped s × (inOrder s ≡ true) × (s .beam .cycle + cycles ≤ lineCycles) ⌝ }
-    ensures { λ r. ⌜ StepTaken cycles (now (vram .entry)) (now (oam .entry)) s (now (a .entry)) (now (b .entry)) (r .report) (r .state) (now (a .exit)) (now (b .exit)) ⌝ }
+    requires { ⌜ Steppable (tables (now vram) (now oam)) (pictures (now a) (now b)) s × (s .beam .cycle + cycles ≤ lineCycles) ⌝ }
+    ensures { λ r. ⌜ StepTaken cycles (tables (now (vram .entry)) (now (oam .entry))) s (pictures (now (a .entry)) (now (b .entry)))
+        (r .report) (r .state) (pictures (now (a .exit)) (now (b .exit))) ⌝ }
 {
     if !wrap::bit(s.regs.lcdc, 7) {
         let report = off_report(s);

@@ -16,7 +16,10 @@ is-whole-requires : tie.Need-is-whole-requires
 is-whole-requires c κs = search needs
 
 returns : tie.Need-returns
-returns c = rw (c .is-whole .ensures, c .before .does-swap .ensures, c .before .before .bit .ensures, c .before .before .before .before .requests-of .ensures)
+returns c =
+    let swap = c .before in
+    let bit = swap .before in
+    rw (c .is-whole .ensures, swap .does-swap .ensures, bit .bit .ensures, bit .before .before .requests-of .ensures)
 
 pub report-of-spec : {M : Type 1} → statement M
 report-of-spec =

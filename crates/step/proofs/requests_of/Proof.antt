@@ -12,26 +12,30 @@ rises-requires c κs = search needs
 
 returns : tie.Need-returns
 returns c =
-    let v = sym (c .before .before .before .stands-at .ensures) ∙ c .if2 .taken in
-    let r = sym (c .before .before .rises .ensures) ∙ c .before .if1 .taken in
+    let asked = c .before .before in
+    let v = sym (asked .before .stands-at .ensures) ∙ c .if2 .taken in
+    let r = sym (asked .rises .ensures) ∙ c .before .if1 .taken in
     rw (v, r)
 
 returns-2 : tie.Need-returns-2
 returns-2 c =
-    let v = sym (c .before .before .before .stands-at .ensures) ∙ c .if2 .left in
-    let r = sym (c .before .before .rises .ensures) ∙ c .before .if1 .taken in
+    let asked = c .before .before in
+    let v = sym (asked .before .stands-at .ensures) ∙ c .if2 .left in
+    let r = sym (asked .rises .ensures) ∙ c .before .if1 .taken in
     rw (v, r)
 
 returns-3 : tie.Need-returns-3
 returns-3 c =
-    let v = sym (c .before .before .before .stands-at .ensures) ∙ c .if3 .taken in
-    let r = sym (c .before .before .rises .ensures) ∙ c .before .if1 .left in
+    let asked = c .before .before in
+    let v = sym (asked .before .stands-at .ensures) ∙ c .if3 .taken in
+    let r = sym (asked .rises .ensures) ∙ c .before .if1 .left in
     rw (v, r)
 
 returns-4 : tie.Need-returns-4
 returns-4 c =
-    let v = sym (c .before .before .before .stands-at .ensures) ∙ c .if3 .left in
-    let r = sym (c .before .before .rises .ensures) ∙ c .before .if1 .left in
+    let asked = c .before .before in
+    let v = sym (asked .before .stands-at .ensures) ∙ c .if3 .left in
+    let r = sym (asked .rises .ensures) ∙ c .before .if1 .left in
     rw (v, r)
 
 pub requests-of-spec : {M : Type 1} → statement M

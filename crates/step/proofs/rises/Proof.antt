@@ -1,5 +1,5 @@
 -- `step::rises` meets its contract.
-use borrow.Author.Tests.{eq-eqb, ne-eqb, not-true, not-false}
+use borrow.Author.Tests.{not-true, not-false}
 use Rattle.step.proofs.rises.Statement.{statement}
 use Rattle.step.proofs.rises.Tie as tie
 
