@@ -1,1 +1,2 @@
+-- What the contracts of `bg_attribs` cite.
 pub mod Attribute

@@ -4,38 +4,25 @@ use mathlib.Core.Bool.{Bool, true, false, not, cond, _&&_, _||_}
 use mathlib.Core.List.{List}
 use Prim.Native.Nat.{ℕ, _+_, _-_, _≤_, _<_}
 use native.Mathlib.Omega.{arith}
-use borrow.Author.Tests.{eqb-true, eqb-false, ltb-true, ltb-false, not-true}
-use lib.Dec.{eqb, ltb, leb}
-use Rattle.wrap.specs.Wrap.{minus, bitAt}
-use Rattle.fifo.proofs.Every.{first, second}
+use borrow.Author.Tests.{eqb-true, eqb-false, ltb-true, ltb-false}
+use lib.Dec.{eqb, ltb}
+use Rattle.wrap.specs.Wrap.{minus}
 use Rattle.tiles.specs.Map.{fetchBg}
+use Rattle.state.specs.With.{withFetcher}
 use Rattle.state.specs.declared.Registers.{Registers}
-use Rattle.state.specs.declared.Spot.{Spot}
 use Rattle.state.specs.declared.Waiting.{Waiting}
 use Rattle.state.specs.declared.Waiting.the-variants.{Row, Nothing}
 use Rattle.state.specs.declared.Pipe.{Pipe}
 use Rattle.state.specs.declared.State.{State}
-use Rattle.pipe.specs.Window.{reached, enters, discardAt, windowed}
-use Rattle.pipe.specs.Fetching.{fetchOf, tookRow, waited, withFetcher, fed}
-use Rattle.draw.specs.Draw.{spot, fedPipe}
+use Rattle.pipe.specs.Window.{reached, discardAt, windowed}
+use Rattle.pipe.specs.Fetching.{fetchOf, tookRow, waited, fed}
+use Rattle.pipe.proofs.Ways.{fetched-cases, fed-cases}
+use Rattle.draw.specs.Draw.{fedPipe}
 use Rattle.bound.specs.Potential.{waits, filled, Paced}
-use Rattle.bound.proofs.Cases.{fetched-cases, fed-cases}
 
 pub waits-most : (w : Waiting) → waits w ≤ 8
 waits-most (Row t) = omega arith
 waits-most Nothing = omega arith
-
--- the window is entered from outside, where its column is reached
-module _ (r : Registers) (inside : Bool) (at : Spot) (e : enters r inside at ≡ true) where
-  reaches : not inside && (leb (r .wy) (at .line) && reached (at .x) (r .wx)) ≡ true
-  unfolding enters
-  reaches = second (bitAt (r .lcdc) 5) _ e
-
-  pub enters-outside : inside ≡ false
-  enters-outside = not-true inside (first (not inside) _ reaches)
-
-  pub enters-reached : reached (at .x) (r .wx) ≡ true
-  enters-reached = second (leb (r .wy) (at .line)) _ (second (not inside) _ reaches)
 
 -- an entry discards at most seven, where nothing was to be discarded after the first place
 pub entry-short : (x wx discard : ℕ) → reached x wx ≡ true → (0 < x → discard ≡ 0) → discardAt wx discard ≤ 7
@@ -81,12 +68,14 @@ module _ (palettes : List ℕ) (p : Pipe) where
         window = refl;
         discard = refl;
         running = omega arith;
-        clear = λ k. n;
+        clear = λ k. rw n refl;
         empty = λ k. omega arith;
         some = λ d. omega arith;
         rises = λ o d. omega arith;
       })
-      (λ h n t. record {
+      (λ h t n.
+      let row : waits (p .fetcher .waiting) ≡ 8 = rw n refl in
+      record {
         window = refl;
         discard = refl;
         running = omega arith;
@@ -109,8 +98,8 @@ module _ (palettes : List ℕ) (p : Pipe) where
         some = λ d. omega arith;
         rises = λ o d. replaced (o .running) (o .behind) h;
       })
-      (λ h n. absurd (omega arith))
-      (λ h n t. record {
+      (λ h n. let z : _≡_ {A = ℕ} 0 1 = cc in absurd (omega arith))
+      (λ h t n. record {
         window = refl;
         discard = refl;
         running = omega arith;
@@ -133,14 +122,14 @@ module _ (palettes : List ℕ) (p : Pipe) where
           by (Row t) e b = let f : waits (p .fetcher .waiting) ≡ 8 = rw e refl in omega arith
           by Nothing e b = let f : waits (p .fetcher .waiting) ≡ 0 = rw e refl in omega arith
 
-pub fed-pipe : (vram : List ℕ) (s : State) → Fed (windowed (s .regs) (spot s) (s .pipe)) (fedPipe vram s)
+pub fed-pipe : (allowed : Bool) (vram : List ℕ) (s : State) → Fed (windowed allowed (s .beam .x) (s .regs .wx) (s .pipe)) (fedPipe allowed vram s)
 unfolding fedPipe
-fed-pipe vram s =
+fed-pipe allowed vram s =
     fetched-cases vram (s .regs) (s .beam .line) p (λ f. Fed p (fed palettes f)) (waited-fed palettes p)
     (took-fed palettes p vram (s .regs) (s .beam .line))
   where
     p : Pipe
-    p = windowed (s .regs) (spot s) (s .pipe)
+    p = windowed allowed (s .beam .x) (s .regs .wx) (s .pipe)
 
     palettes : List ℕ
     palettes = s .palettes .bg .bytes

@@ -3,12 +3,17 @@ use Prim.Native.Nat.{ℕ, _+_, _-_, _≤_, _<_}
 use mathlib.Core.Path.{_≡_}
 use mathlib.Core.Bool.{Bool, false, cond}
 use mathlib.Core.Logic.{_⊎_}
+use mathlib.Core.List.{List, [], _∷_}
+use lib.Dec.{eqb}
+use lib.ListN.{length}
 use Rattle.hardware.specs.Screen.{width}
 use Rattle.state.specs.With.{modeOf}
 use Rattle.state.specs.declared.Waiting.{Waiting}
 use Rattle.state.specs.declared.Waiting.the-variants.{Row, Nothing}
 use Rattle.state.specs.declared.Pipe.{Pipe}
 use Rattle.state.specs.declared.State.{State}
+use Rattle.order.specs.Fine.{Fine}
+use Rattle.draw.specs.Draw.{drawnIf}
 
 -- a row that waits is eight pixels
 abbrev pub waits : Waiting → ℕ
@@ -36,10 +41,10 @@ pub record Paced (p : Pipe) : Type 0 where
   pub behind : p .fetcher .delay ≡ 1 → waits (p .fetcher .waiting) ≤ p .bg .len
 
 -- outside the window at most seven pixels are to be discarded, and none once a place was drawn
-pub record Steady (s : State) : Type 0 where
-  pub paced : Paced (s .pipe)
-  pub short : s .pipe .window ≡ false → s .pipe .discard ≤ 7
-  pub still : s .pipe .window ≡ false → 0 < s .beam .x → s .pipe .discard ≡ 0
+pub record Steady (x : ℕ) (p : Pipe) : Type 0 where
+  pub paced : Paced p
+  pub short : p .window ≡ false → p .discard ≤ 7
+  pub still : p .window ≡ false → 0 < x → p .discard ≡ 0
 
 -- the line goes on: the registers stay, x stays or goes up by one, and is on the screen
 pub record Goes (s u : State) : Type 0 where
@@ -52,3 +57,14 @@ pub record Ended (u : State) : Type 0 where
   pub mode : modeOf (u .regs .stat) ≡ 0
   pub x : u .beam .x ≡ 0
   pub window : u .pipe .window ≡ false
+
+-- draws under any condition of the window, a coin at each draw, until the line ends
+unfoldable pub drawsIf : List Bool → List ℕ → State → State
+drawsIf [] vram s = s
+drawsIf (allowed ∷ rest) vram s = cond (eqb (modeOf (s .regs .stat)) 3) (drawsIf rest vram (drawnIf allowed vram s .state)) s
+
+-- each line ends, whatever the condition: as many draws as are left end it
+abbrev pub LineEnds : Type 0
+LineEnds =
+    (coins : List Bool) (vram : List ℕ) (s : State) → Fine s → Steady (s .beam .x) (s .pipe) → modeOf (s .regs .stat) ≡ 3
+    → left s ≤ length coins → Ended (drawsIf coins vram s)

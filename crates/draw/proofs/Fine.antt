@@ -1,5 +1,5 @@
 -- The parts of a draw keep a state in order, and what is popped has colour numbers.
-use mathlib.Core.Path.{_≡_, _∙_}
+use mathlib.Core.Path.{_≡_}
 use mathlib.Core.Bool.{Bool, true}
 use mathlib.Core.List.{List}
 use Prim.Native.Nat.{ℕ, _+_, _≤_, _<_}
@@ -12,7 +12,7 @@ use Rattle.fifo.specs.declared.BgFifo.{BgFifo}
 use Rattle.fifo.specs.declared.SpriteFifo.{SpriteFifo}
 use Rattle.fifo.proofs.Background.{bg-popped-every}
 use Rattle.fifo.proofs.Sprites.{sprite-popped-every, sprite-popped-len, sprite-popped-slots}
-use Rattle.pixel.proofs.Added.{sprites-len, sprites-slots, sprites-order}
+use Rattle.pixel.proofs.Added.{sprites-fine}
 use Rattle.pipe.proofs.Fine.{emptied-fine, windowed-fine, fetched-fine, fed-fine}
 use Rattle.state.specs.With.{withPipe, modeOf}
 use Rattle.state.specs.declared.Pipe.{Pipe}
@@ -49,14 +49,7 @@ popped-sprite-fine {q} h =
 -- the queue with the sprites that start here
 pub ready-fine : (vram : List ℕ) (s : State) (p : Pipe) → SelectionFine (s .selection) → SpriteFine (p .obj) → SpriteFine (ready vram s p)
 unfolding ready
-ready-fine vram s p l h =
-    let r = s .regs in
-    let palettes = s .palettes .obj .bytes in
-    record {
-      size = sprites-slots vram r palettes (spot s) (s .selection) (p .obj) ∙ h .size;
-      len = sprites-len vram r palettes (spot s) (s .selection) (p .obj) (h .len);
-      pixels = sprites-order vram r palettes (spot s) (s .selection) (p .obj) (h .size) (h .len) (l .indexes) (h .pixels);
-    }
+ready-fine vram s p l h = sprites-fine vram (s .regs) (s .palettes .obj .bytes) (spot s) l h
 
 discarded-fine : {p : Pipe} → 0 < p .bg .len → PipeFine p → PipeFine (discarded p)
 discarded-fine some h =

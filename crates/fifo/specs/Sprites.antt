@@ -47,7 +47,8 @@ merged coord (o ∷ old) (n ∷ row) = over coord o n ∷ merged coord old row
 
 -- a row of eight is pushed: the mix is laid into the slots from the head on
 abbrev pub spritePushed : Bool → SpriteFifo → List SpriteFifoPixel → SpriteFifo
-spritePushed coord q row = record { pixels = laid 8 (q .pixels) (q .head) (merged coord (spriteQueued q) row); head = q .head; len = 8 }
+spritePushed coord q row =
+    record { pixels = laid 8 (q .pixels) (q .head) (merged coord (spriteQueued q) row); head = q .head; len = 8 }
 
 -- a pop gives the pixel at the head, and the head moves on; or nothing when the queue is empty
 abbrev pub spriteFront : SpriteFifo → SpriteFifoPixel
@@ -57,7 +58,11 @@ abbrev pub spriteRest : SpriteFifo → SpriteFifo
 spriteRest q = record { pixels = q .pixels; head = (q .head % 8 + 1) % 8; len = q .len - 1 }
 
 unfoldable pub spritePopped : SpriteFifo → SpritePopped
-spritePopped q = cond (eqb (q .len) 0) (record { answer = Nothing; fifo = q }) (record { answer = Pixel (spriteFront q); fifo = spriteRest q })
+spritePopped q =
+    cond
+    (eqb (q .len) 0)
+    (record { answer = Nothing; fifo = q })
+    (record { answer = Pixel (spriteFront q); fifo = spriteRest q })
 
 -- emptied, the slots stay
 abbrev pub spriteCleared : SpriteFifo → SpriteFifo

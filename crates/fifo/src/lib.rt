@@ -12,7 +12,8 @@ pub struct BgFifoPixel {
     pub priority: bool,
 }
 
-// A sprite pixel: its colour number, its palette in and outside colour mode, its place in OAM, and whether it stands behind.
+// A sprite pixel: its colour number, its palette, whether that is OBP0 or OBP1 outside colour mode, its place in OAM, and
+// whether it stands behind.
 pub struct SpriteFifoPixel {
     pub color: u8,
     pub palette: ColorPalette,

@@ -6,7 +6,6 @@ use Prim.Native.Nat.{ℕ, _+_, _-_, _≤_}
 use native.Mathlib.Omega.{arith}
 use borrow.Author.Tests.{le-leb}
 use lib.ListN.{getD}
-use Rattle.logic.specs.Every.{every}
 use Rattle.logic.proofs.Every.{every-all, every-map}
 use Rattle.bg_attribs.specs.Attribute.{paletteNumber, priorityOf}
 use Rattle.bg_attribs.specs.declared.BgAttribute.{BgAttribute}
@@ -15,13 +14,13 @@ use Rattle.fifo.specs.Background.{bgCleared, bgRow, bgInked}
 use Rattle.fifo.specs.Sprites.{spriteCleared}
 use Rattle.fifo.specs.declared.BgFifo.{BgFifo}
 use Rattle.fifo.specs.declared.SpriteFifo.{SpriteFifo}
-use Rattle.fifo.proofs.Background.{bg-cleared, bg-pushed-every, bg-pushed-slots, bg-pushed-len, bg-row-length}
-use Rattle.fifo.proofs.Sprites.{sprite-cleared}
+use Rattle.fifo.proofs.Background.{bg-cleared-every, bg-pushed-every, bg-pushed-slots, bg-pushed-len, bg-row-length}
+use Rattle.fifo.proofs.Sprites.{sprite-cleared-every}
 use Rattle.tiles.proofs.Colours.{Colours, fetched-colours}
 use Rattle.state.specs.declared.Registers.{Registers}
 use Rattle.state.specs.declared.Waiting.the-variants.{Row}
 use Rattle.state.specs.declared.Pipe.{Pipe}
-use Rattle.order.specs.Order.{colourOrder, rowOrder, waitingOrder, bgPixelOrder}
+use Rattle.order.specs.Order.{colourOrder, rowOrder, bgPixelOrder, spritePixelOrder}
 use Rattle.order.specs.Fine.{BgFine, SpriteFine, PipeFine}
 use Rattle.pipe.specs.Window.{emptied, windowed}
 use Rattle.pipe.specs.Fetching.{fetchOf, fetchedPipe, rowPushed, fed}
@@ -29,12 +28,10 @@ use Rattle.pipe.proofs.Ways.{windowed-cases, fetched-cases, fed-cases}
 
 -- emptied queues
 bg-cleared-fine : {q : BgFifo} → BgFine q → BgFine (bgCleared q)
-unfolding every
-bg-cleared-fine {q} h = record { size = h .size; len = omega arith; pixels = rw (bg-cleared q) refl }
+bg-cleared-fine {q} h = record { size = h .size; len = omega arith; pixels = bg-cleared-every bgPixelOrder q }
 
 sprite-cleared-fine : {q : SpriteFifo} → SpriteFine q → SpriteFine (spriteCleared q)
-unfolding every
-sprite-cleared-fine {q} h = record { size = h .size; len = omega arith; pixels = rw (sprite-cleared q) refl }
+sprite-cleared-fine {q} h = record { size = h .size; len = omega arith; pixels = sprite-cleared-every spritePixelOrder q }
 
 pub emptied-fine : {p : Pipe} → PipeFine p → PipeFine (emptied p)
 emptied-fine h =

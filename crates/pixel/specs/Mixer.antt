@@ -1,4 +1,4 @@
--- 01, "One draw", and Pan Docs, "Pixel FIFO": which of two pixels is seen, and its colour.
+-- 01, "One draw", and Pan Docs, "Pixel FIFO": which of two pixels is seen, and then its colour.
 use Prim.Native.Nat.{ℕ, _<_}
 use mathlib.Core.Bool.{Bool, not, cond, _&&_, _||_}
 use lib.Dec.{eqb}
@@ -11,6 +11,8 @@ use Rattle.fifo.specs.declared.SpriteFifoPixel.{SpriteFifoPixel}
 use Rattle.fifo.specs.declared.SpritePop.{SpritePop}
 use Rattle.fifo.specs.declared.SpritePop.the-variants.{Pixel, Nothing}
 use Rattle.state.specs.declared.Registers.{Registers}
+use Rattle.pixel.specs.declared.Winner.{Winner}
+use Rattle.pixel.specs.declared.Winner.the-variants.{Background, Sprite}
 
 -- the sprite pixel wins exactly if its colour is not 0 and: colour mode with LCDC bit 0 clear, or background 0, or neither
 -- priority bit set
@@ -18,6 +20,11 @@ unfoldable pub wins : Registers → BgFifoPixel → SpriteFifoPixel → Bool
 wins r b s =
     not (eqb (s .color) 0)
     && ((r .cgb && not (bitAt (r .lcdc) 0)) || (eqb (b .color) 0 || (not (b .priority) && not (s .priority))))
+
+-- what is seen: a popped sprite pixel that wins, else the background
+unfoldable pub winner : Registers → BgFifoPixel → SpritePop → Winner
+winner r b (Pixel s) = cond (wins r b s) (Sprite s) Background
+winner r b Nothing = Background
 
 -- outside colour mode a colour passes a palette byte
 abbrev pub passed : Registers → ℕ → ℕ → ℕ
@@ -30,12 +37,20 @@ bgColour r b = colourAt (b .palette) (passed r (r .bgp) (b .color))
 abbrev pub spriteColour : Registers → SpriteFifoPixel → Color
 spriteColour r s = colourAt (s .palette) (passed r (cond (eqb (s .obp) 0) (r .obp0) (r .obp1)) (s .color))
 
--- what is seen of a background pixel and a pop of the sprite queue
-unfoldable pub seen : Registers → BgFifoPixel → SpritePop → Color
-seen r b (Pixel s) = cond (wins r b s) (spriteColour r s) (bgColour r b)
-seen r b Nothing = bgColour r b
+-- the colour of what is seen
+abbrev pub winnerColour : Registers → BgFifoPixel → Winner → Color
+winnerColour r b Background = bgColour r b
+winnerColour r b (Sprite s) = spriteColour r s
 
--- a popped pixel has a colour number
+-- the colour seen of a background pixel and a pop of the sprite queue
+unfoldable pub seen : Registers → BgFifoPixel → SpritePop → Color
+seen r b pop = winnerColour r b (winner r b pop)
+
+-- a popped pixel has a colour number, and so has a sprite pixel that is seen
 abbrev pub Coloured : SpritePop → Type 0
 Coloured (Pixel s) = s .color < 4
 Coloured Nothing = Unit {0}
+
+abbrev pub WinnerColoured : Winner → Type 0
+WinnerColoured Background = Unit {0}
+WinnerColoured (Sprite s) = s .color < 4

@@ -21,7 +21,7 @@ tallOf lcdc = cond (bitAt lcdc 2) 16 8
 
 -- which of the eight sprite palettes: by flag bits 0 to 2, outside colour mode by bit 4
 abbrev pub selector : Bool → ℕ → ℕ
-selector colour flags = cond colour (colourPalette flags) (greyPalette flags)
+selector cgb flags = cond cgb (colourPalette flags) (greyPalette flags)
 
 -- what every pixel of a sprite has but its colour; the palette is that of the moment
 abbrev pub inkOf : Registers → List ℕ → SelectedSprite → SpriteFifoPixel
@@ -34,12 +34,15 @@ inkOf r palettes s =
       priority = behind (s .sprite .flags);
     }
 
+-- the eight pixels of a selected sprite at a place
+abbrev pub pixelsOf : List ℕ → Registers → List ℕ → Spot → SelectedSprite → List SpriteFifoPixel
+pixelsOf vram r palettes at s =
+    inkedRow (inkOf r palettes s) (spriteColours vram (s .sprite) (at .line) (tallOf (r .lcdc)) (at .x))
+
 -- a selected sprite that starts at the place is laid into the queue
 unfoldable pub spriteAdded : List ℕ → Registers → List ℕ → Spot → SpriteFifo → SelectedSprite → SpriteFifo
 spriteAdded vram r palettes at q s =
-    cond (startsAt (s .sprite) (at .x))
-    (spritePushed (r .coord) q (inkedRow (inkOf r palettes s) (spriteColours vram (s .sprite) (at .line) (tallOf (r .lcdc)) (at .x))))
-    q
+    cond (startsAt (s .sprite) (at .x)) (spritePushed (r .coord) q (pixelsOf vram r palettes at s)) q
 
 -- the selected sprites in order
 unfoldable pub allAdded : List ℕ → Registers → List ℕ → Spot → SpriteFifo → List SelectedSprite → SpriteFifo

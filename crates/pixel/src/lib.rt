@@ -2,8 +2,10 @@
 ghost use mathlib.Core.Path.{_≡_};
 ghost use Prim.Native.Nat.{_<_, _≤_};
 ghost use lib.ListN.{length};
+ghost use Rattle.hardware.specs.Tables.{vramBytes};
 ghost use Rattle.pixel.specs.Sprites.{tallOf, selector, inkOf, spriteAdded, spritesAdded};
-ghost use Rattle.pixel.specs.Mixer.{wins, passed, bgColour, spriteColour, seen, Coloured};
+ghost use Rattle.pixel.specs.Mixer.{wins, winner, passed, bgColour, spriteColour, winnerColour, seen};
+ghost use Rattle.pixel.specs.Mixer.{Coloured, WinnerColoured};
 use colors::Color;
 use colors::PaletteSet;
 use fifo::BgFifoPixel;
@@ -23,11 +25,11 @@ pub fn tall_of(lcdc: u8) -> u8
 }
 
 // Which of the eight sprite palettes a sprite has.
-fn selector_of(colour: bool, s: SelectedSprite) -> u8
-    ensures { λ r. ⌜ r ≡ selector colour (s .sprite .flags) ⌝ }
+fn selector_of(cgb: bool, s: SelectedSprite) -> u8
+    ensures { λ r. ⌜ r ≡ selector cgb (s .sprite .flags) ⌝ }
 {
     let sprite = s.sprite;
-    if colour {
+    if cgb {
         sprite.cgb_palette()
     } else {
         sprite.dmg_palette()
@@ -58,7 +60,7 @@ pub fn add_sprite(
     q: SpriteFifo,
     s: SelectedSprite,
 ) -> SpriteFifo
-    requires { ⌜ (length (now vram) ≡ 16384) × (q .len ≤ 8) ⌝ }
+    requires { ⌜ (length (now vram) ≡ vramBytes) × (q .len ≤ 8) ⌝ }
     ensures { λ n. ⌜ n ≡ spriteAdded (now (vram .entry)) r (palettes .bytes) at q s ⌝ }
 {
     if !tiles::starts_at(s.sprite, at.x) {
@@ -78,7 +80,7 @@ pub fn add_sprites(
     at: Spot,
     q: SpriteFifo,
 ) -> SpriteFifo
-    requires { ⌜ (length (now vram) ≡ 16384) × (q .len ≤ 8) × (l .count ≤ 10) ⌝ }
+    requires { ⌜ (length (now vram) ≡ vramBytes) × (q .len ≤ 8) × (l .count ≤ 10) ⌝ }
     ensures { λ n. ⌜ n ≡ spritesAdded (now (vram .entry)) r (palettes .bytes) l at q ⌝ }
 {
     if !wrap::bit(r.lcdc, 1) {
@@ -95,6 +97,12 @@ pub fn add_sprites(
         k += 1;
     }
     queue
+}
+
+// What is seen at a place: the background pixel, or a sprite pixel in front of it.
+pub enum Winner {
+    Background,
+    Sprite(SpriteFifoPixel),
 }
 
 // Whether a sprite pixel is seen in front of a background pixel.
@@ -118,6 +126,19 @@ pub fn sprite_wins(r: Registers, b: BgFifoPixel, s: SpriteFifoPixel) -> bool
     !s.priority
 }
 
+// Which pixel is seen. A pop of nothing falls back to the background.
+pub fn decide(r: Registers, b: BgFifoPixel, pop: SpritePop) -> Winner
+    ensures { λ w. ⌜ w ≡ winner r b pop ⌝ }
+{
+    let SpritePop::Pixel(s) = pop else {
+        return Winner::Background;
+    };
+    if sprite_wins(r, b, s) {
+        return Winner::Sprite(s);
+    }
+    Winner::Background
+}
+
 // A colour, passed by a palette byte outside colour mode.
 fn pass(r: Registers, byte: u8, color: u8) -> u8
     requires { ⌜ color < 4 ⌝ }
@@ -129,6 +150,7 @@ fn pass(r: Registers, byte: u8, color: u8) -> u8
     colors::shade_of(byte, color)
 }
 
+// The colour of a background pixel.
 fn bg_color(r: Registers, b: BgFifoPixel) -> Color
     requires { ⌜ b .color < 4 ⌝ }
     ensures { λ c. ⌜ c ≡ bgColour r b ⌝ }
@@ -137,6 +159,7 @@ fn bg_color(r: Registers, b: BgFifoPixel) -> Color
     palette.get_color(pass(r, r.bgp, b.color))
 }
 
+// The colour of a sprite pixel.
 fn sprite_color(r: Registers, s: SpriteFifoPixel) -> Color
     requires { ⌜ s .color < 4 ⌝ }
     ensures { λ c. ⌜ c ≡ spriteColour r s ⌝ }
@@ -148,16 +171,22 @@ fn sprite_color(r: Registers, s: SpriteFifoPixel) -> Color
     palette.get_color(pass(r, r.obp1, s.color))
 }
 
-// The mixer: what is seen of a background pixel and a pop of the sprite queue, which falls back to the background.
+// The colour of what is seen.
+pub fn color_of(r: Registers, b: BgFifoPixel, w: Winner) -> Color
+    requires { ⌜ (b .color < 4) × WinnerColoured w ⌝ }
+    ensures { λ c. ⌜ c ≡ winnerColour r b w ⌝ }
+{
+    match w {
+        Winner::Background => bg_color(r, b),
+        Winner::Sprite(s) => sprite_color(r, s),
+    }
+}
+
+// The mixer: of a background pixel and a pop of the sprite queue one is seen, and its colour is the answer.
 pub fn mixer(r: Registers, b: BgFifoPixel, pop: SpritePop) -> Color
     requires { ⌜ (b .color < 4) × Coloured pop ⌝ }
     ensures { λ c. ⌜ c ≡ seen r b pop ⌝ }
 {
-    let SpritePop::Pixel(s) = pop else {
-        return bg_color(r, b);
-    };
-    if sprite_wins(r, b, s) {
-        return sprite_color(r, s);
-    }
-    bg_color(r, b)
+    let w = decide(r, b, pop);
+    color_of(r, b, w)
 }

@@ -9,7 +9,13 @@ use Rattle.sprite.specs.declared.Sprite.{Sprite}
 
 -- entry i of OAM: y, x, tile, flags
 abbrev pub entry : List ℕ → ℕ → Sprite
-entry oam i = record { y = getD oam (4 * i) 0; x = getD oam (4 * i + 1) 0; tile = getD oam (4 * i + 2) 0; flags = getD oam (4 * i + 3) 0 }
+entry oam i =
+    record {
+      y = getD oam (4 * i) 0;
+      x = getD oam (4 * i + 1) 0;
+      tile = getD oam (4 * i + 2) 0;
+      flags = getD oam (4 * i + 3) 0;
+    }
 
 -- byte 0: the line of the sprite's top row, plus 16
 abbrev pub screenY : ℕ → ℕ
@@ -19,9 +25,9 @@ screenY y = minus y 16
 abbrev pub screenX : ℕ → ℕ
 screenX x = minus x 8
 
--- a line is in range of a sprite at y if it is one of the rows below its top, modulo 256
+-- a line is in range of a sprite at y, so many rows tall, if it meets one of them: modulo 256
 abbrev pub inRange : ℕ → ℕ → ℕ → Bool
-inRange y line height = ltb (minus line (screenY y)) height
+inRange y line tall = ltb (minus line (screenY y)) tall
 
 -- byte 3, bits 0 to 2: the palette in colour mode
 abbrev pub colourPalette : ℕ → ℕ

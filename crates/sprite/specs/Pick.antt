@@ -1,11 +1,12 @@
 -- Pan Docs, "Selection priority": of the entries in range of a line the first ten, in OAM's order.
 use Prim.Native.Nat.{ℕ, zero, suc}
-use mathlib.Core.Bool.{Bool, true, false, not, cond, _&&_, _||_}
+use mathlib.Core.Bool.{Bool, true, cond, _&&_, _||_}
 use mathlib.Core.List.{List, [], _∷_, _++_, map}
 use lib.Dec.{eqb, ltb}
 use lib.ListN.{length, take, drop, replicate}
+use Rattle.refusals.specs.Ladder.{lowest, own, done}
 use Rattle.hardware.specs.Screen.{height}
-use Rattle.sprite.specs.declared.Sprite.{Sprite}
+use Rattle.hardware.specs.Tables.{oamBytes}
 use Rattle.sprite.specs.declared.SelectedSprite.{SelectedSprite}
 use Rattle.sprite.specs.declared.Selection.{Selection}
 use Rattle.sprite.specs.declared.Picked.{Picked}
@@ -21,13 +22,13 @@ unfoldable pub those : (ℕ → Bool) → List ℕ → List ℕ
 those test [] = []
 those test (x ∷ l) = cond (test x) (x ∷ those test l) (those test l)
 
--- entry i is in range of a line at a height
+-- entry i, so tall, is in range of a line
 abbrev pub touches : List ℕ → ℕ → ℕ → ℕ → Bool
-touches oam line height i = inRange (entry oam i .y) line height
+touches oam line tall i = inRange (entry oam i .y) line tall
 
 -- the ten lowest of the forty entries that are in range
 unfoldable pub lowestTen : List ℕ → ℕ → ℕ → List ℕ
-lowestTen oam line height = take 10 (those (touches oam line height) (upTo 40))
+lowestTen oam line tall = take 10 (those (touches oam line tall) (upTo 40))
 
 -- entry i, copied, with its index
 abbrev pub copyOf : List ℕ → ℕ → SelectedSprite
@@ -39,25 +40,35 @@ slotsOf oam entries former = map (copyOf oam) entries ++ drop (length entries) f
 
 -- what a search leaves: how many were picked, and the slots
 abbrev pub selection : List ℕ → ℕ → ℕ → List SelectedSprite → Selection
-selection oam line height former =
-    record { count = length (lowestTen oam line height); slots = slotsOf oam (lowestTen oam line height) former }
+selection oam line tall former =
+    record { count = length (lowestTen oam line tall); slots = slotsOf oam (lowestTen oam line tall) former }
 
 -- ten slots of nothing
 abbrev pub blankSlots : List SelectedSprite
 blankSlots = replicate 10 (record { sprite = record { y = 0; x = 0; tile = 0; flags = 0 }; index = 0 })
 
--- a pick asked for by itself: 1 for an OAM of another length; 4 for a line below the picture or another height than 8 or 16
+-- a pick asked for by itself wants the whole of OAM, a line of the picture, and sprites 8 or 16 rows tall
+abbrev pub oamFits : List ℕ → Bool
+oamFits oam = eqb (length oam) oamBytes
+
+abbrev pub pickable : ℕ → ℕ → Bool
+pickable line tall = ltb line height && (eqb tall 8 || eqb tall 16)
+
+-- its number: 1 for an OAM of another length, 4 for another line or height; it takes no state that could be out of order
 unfoldable pub pickNumber : List ℕ → ℕ → ℕ → ℕ
-pickNumber oam line tall =
-    cond (not (eqb (length oam) 160)) 1 (cond (not (ltb line height && (eqb tall 8 || eqb tall 16))) 4 0)
+pickNumber oam line tall = lowest (oamFits oam) true (own (pickable line tall) 4)
 
 -- refused, nothing is picked
+abbrev pub nothingPicked : Selection
+nothingPicked = record { count = 0; slots = blankSlots }
+
 abbrev pub refusedPick : ℕ → Picked
-refusedPick n = record { number = n; selection = record { count = 0; slots = blankSlots } }
+refusedPick n = record { number = n; selection = nothingPicked }
 
-abbrev pub pickBy : ℕ → Selection → Picked
-pickBy zero s = record { number = 0; selection = s }
-pickBy (suc n) s = refusedPick (suc n)
-
+-- the answer: the number, and what a search of blank slots leaves
 unfoldable pub pickOf : List ℕ → ℕ → ℕ → Picked
-pickOf oam line tall = pickBy (pickNumber oam line tall) (selection oam line tall blankSlots)
+pickOf oam line tall =
+    record {
+      number = pickNumber oam line tall;
+      selection = cond (done (pickNumber oam line tall)) (selection oam line tall blankSlots) nothingPicked;
+    }

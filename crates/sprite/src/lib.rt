@@ -2,8 +2,10 @@
 ghost use mathlib.Core.Path.{_≡_};
 ghost use Prim.Native.Nat.{_<_, _*_, _+_};
 ghost use lib.ListN.{length, getD, set};
-ghost use Rattle.sprite.specs.Oam.{entry, screenY, screenX, inRange, colourPalette, bankOf, greyPalette, xFlip, yFlip, behind, bytesOf, movedLeft};
-ghost use Rattle.sprite.specs.Pick.{selection, blankSlots, refusedPick, pickOf};
+ghost use Rattle.hardware.specs.Tables.{oamBytes};
+ghost use Rattle.sprite.specs.Oam.{entry, screenY, screenX, inRange, bytesOf, movedLeft};
+ghost use Rattle.sprite.specs.Oam.{colourPalette, bankOf, greyPalette, xFlip, yFlip, behind};
+ghost use Rattle.sprite.specs.Pick.{selection, blankSlots, pickable, pickNumber, refusedPick, pickOf};
 use hardware::Machine;
 
 // The four bytes of an entry of OAM.
@@ -71,11 +73,11 @@ impl Sprite {
     }
 
     // Whether a line meets a row of the sprite.
-    pub fn in_range(self, line: u8, height: u8) -> bool
-        ensures { λ r. ⌜ r ≡ inRange (self .y) line height ⌝ }
+    pub fn in_range(self, line: u8, tall: u8) -> bool
+        ensures { λ r. ⌜ r ≡ inRange (self .y) line tall ⌝ }
     {
         let top = self.screen_y();
-        wrap::wrapping_sub(line, top) < height
+        wrap::wrapping_sub(line, top) < tall
     }
 
     pub fn dmg_palette(self) -> u8
@@ -137,15 +139,15 @@ pub struct Selection {
 }
 
 // The ten lowest entries in range of a line, over slots that keep what they had past the count.
-pub fn select(oam: &[u8], line: u8, height: u8, former: [SelectedSprite; 10]) -> Selection
-    requires { ⌜ length (now oam) ≡ 160 ⌝ }
-    ensures { λ r. ⌜ r ≡ selection (now (oam .entry)) line height former ⌝ }
+pub fn select(oam: &[u8], line: u8, tall: u8, former: [SelectedSprite; 10]) -> Selection
+    requires { ⌜ length (now oam) ≡ oamBytes ⌝ }
+    ensures { λ r. ⌜ r ≡ selection (now (oam .entry)) line tall former ⌝ }
 {
     let mut slots = former;
     let mut count: usize = 0;
     'search: for i in 0..40 {
         let sprite = Sprite::at(oam, i);
-        if sprite.in_range(line, height) {
+        if sprite.in_range(line, tall) {
             slots[count] = SelectedSprite {
                 sprite,
                 index: i as u8,
@@ -192,27 +194,38 @@ fn refused(number: u8) -> Picked
     Picked { number, selection }
 }
 
-// The ten lowest entries in range of a line, in slots that are 0 past the count; refused by 1 or 4.
-pub fn pick(oam: &[u8], line: u8, height: u8) -> Picked
-    ensures { λ r. ⌜ r ≡ pickOf (now (oam .entry)) line height ⌝ }
+// Whether a line is of the picture, and sprites can be so tall.
+fn is_pickable(line: u8, tall: u8) -> bool
+    ensures { λ r. ⌜ r ≡ pickable line tall ⌝ }
 {
-    if oam.len() != 160 {
-        return refused(1);
-    }
     if line as usize >= Machine::HEIGHT {
-        return refused(4);
+        return false;
     }
-    if height != 8 {
-        if height != 16 {
-            return refused(4);
-        }
+    if tall == 8 {
+        return true;
+    }
+    tall == 16
+}
+
+// The number of a pick.
+fn pick_number(oam: &[u8], line: u8, tall: u8) -> u8
+    ensures { λ r. ⌜ r ≡ pickNumber (now (oam .entry)) line tall ⌝ }
+{
+    let own = refusals::own(is_pickable(line, tall), 4);
+    refusals::lowest(oam.len() == Machine::OAM_BYTES, true, own)
+}
+
+// The ten lowest entries in range of a line, in slots that are 0 past the count; refused by 1 or 4.
+pub fn pick(oam: &[u8], line: u8, tall: u8) -> Picked
+    ensures { λ r. ⌜ r ≡ pickOf (now (oam .entry)) line tall ⌝ }
+{
+    let number = pick_number(oam, line, tall);
+    if number != 0 {
+        return refused(number);
     }
     let slots = blank();
-    let selection = select(oam, line, height, slots);
-    Picked {
-        number: 0,
-        selection,
-    }
+    let selection = select(oam, line, tall, slots);
+    Picked { number, selection }
 }
 
 // The colours of a sprite at x: below 8 they move left by 8 - x, and 0s follow.

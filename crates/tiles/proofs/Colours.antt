@@ -1,18 +1,20 @@
 -- Laws of colours: a row has eight, each at most 3, and flips and moves keep that.
 use mathlib.Core.Path.{_≡_, refl, _∙_}
-use mathlib.Core.Bool.{Bool, true, false, cond}
+use mathlib.Core.Bool.{Bool, true, false}
 use mathlib.Core.List.{List, [], _∷_, _++_, map, reverse, reverseAux}
 use Prim.Native.Nat.{ℕ, zero, suc, _+_, _-_, _≤_}
 use native.Mathlib.Omega.{arith}
 use lib.ListN.{length, getD, drop, replicate, length-append, length-drop, length-replicate, length-reverse}
 use lib.Seq.{getD-drop}
+use Rattle.logic.proofs.Tests.{by-test}
 use Rattle.bg_attribs.specs.Attribute as attribute
 use Rattle.sprite.specs.Oam as oam
 use Rattle.sprite.specs.declared.Sprite.{Sprite}
 use Rattle.tiles.specs.Tile.{colourIn, rowOf, mirrored}
-use Rattle.tiles.specs.Map.{pattern, blanked, noTile, fetchWindow, fetchScrolled, fetchBg}
+use Rattle.tiles.specs.Map.{pattern, bgOff, fetchBg}
 use Rattle.tiles.specs.Objects.{spriteRow, startsLeft, spriteColours}
 use Rattle.tiles.specs.declared.Fetch.{Fetch}
+use Rattle.tiles.specs.declared.Fetched.{Fetched}
 
 -- each at most 3
 abbrev pub Small : List ℕ → Type 0
@@ -83,23 +85,17 @@ pattern-colours vram lcdc tile bits row = mirrored-colours (row-colours _ _) (at
 
 pub fetched-colours : (vram : List ℕ) (f : Fetch) → Colours (fetchBg vram f .row)
 unfolding fetchBg
-fetched-colours vram f = by (blanked (f .cgb) (f .lcdc)) (f .window)
-  where
-    by : (none window : Bool) → Colours (cond none noTile (cond window (fetchWindow vram f) (fetchScrolled vram f)) .row)
-    by true window = zero-colours
-    by false true = pattern-colours _ _ _ _ _
-    by false false = pattern-colours _ _ _ _ _
+fetched-colours vram f =
+    by-test (λ (t : Fetched). Colours (t .row)) (bgOff (f .cgb) (f .lcdc)) (λ off. zero-colours)
+    (λ on. by-test (λ (t : Fetched). Colours (t .row)) (f .window) (λ w. pattern-colours _ _ _ _ _) (λ w. pattern-colours _ _ _ _ _))
 
 -- what a sprite gives
-pub sprite-row-colours : (vram : List ℕ) (s : Sprite) (line height : ℕ) → Colours (spriteRow vram s line height)
+pub sprite-row-colours : (vram : List ℕ) (s : Sprite) (line tall : ℕ) → Colours (spriteRow vram s line tall)
 unfolding spriteRow
-sprite-row-colours vram s line height = mirrored-colours (row-colours _ _) (oam.xFlip (s .flags))
+sprite-row-colours vram s line tall = mirrored-colours (row-colours _ _) (oam.xFlip (s .flags))
 
-pub sprite-colours : (vram : List ℕ) (s : Sprite) (line height x : ℕ) → Colours (spriteColours vram s line height x)
+pub sprite-colours : (vram : List ℕ) (s : Sprite) (line tall x : ℕ) → Colours (spriteColours vram s line tall x)
 unfolding spriteColours
-sprite-colours vram s line height x = by (startsLeft s x)
-  where
-    by : (left : Bool)
-        → Colours (cond left (oam.movedLeft (spriteRow vram s line height) (s .x)) (spriteRow vram s line height))
-    by true = moved-colours (sprite-row-colours vram s line height) (s .x)
-    by false = sprite-row-colours vram s line height
+sprite-colours vram s line tall x =
+    let row = sprite-row-colours vram s line tall in
+    by-test Colours (startsLeft s x) (λ left. moved-colours row (s .x)) (λ within. row)

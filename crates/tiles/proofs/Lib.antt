@@ -1,3 +1,5 @@
 -- The laws of `tiles` that belong to no one function.
+-- where a row stands
 pub mod Rows
+-- rows have eight colours, each at most 3
 pub mod Colours

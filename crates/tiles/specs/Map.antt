@@ -5,7 +5,8 @@ use mathlib.Core.List.{List}
 use lib.ListN.{replicate}
 use Rattle.wrap.specs.Wrap.{bitAt}
 use Rattle.bg_attribs.specs.Attribute.{bankOf, xFlip, yFlip}
-use Rattle.tiles.specs.Tile.{byteAt, tileRow, tileAddress, mirrored}
+use Rattle.tiles.specs.Tile.{byteAt, inBank, rowAt, tileAddress, mirrored}
+use Rattle.tiles.specs.declared.Address.{Address}
 use Rattle.tiles.specs.declared.Fetch.{Fetch}
 use Rattle.tiles.specs.declared.Fetched.{Fetched}
 
@@ -17,10 +18,14 @@ mapAddress high row column = cond high 0x9C00 0x9800 + 32 * (row / 8) + column
 abbrev pub tileLine : Bool → ℕ → ℕ
 tileLine flip row = cond flip (7 - row % 8) (row % 8)
 
--- the colours of a tile by its number, its attribute and the row of the map
+-- where the row of a tile stands, by its number, its attribute and the row of the map: two bytes a row
+abbrev pub bgAddress : ℕ → ℕ → ℕ → ℕ → Address
+bgAddress lcdc tile attribute row =
+    inBank (bankOf attribute) (tileAddress lcdc tile + 2 * tileLine (yFlip attribute) row)
+
+-- its colours, with the x flip of the attribute
 unfoldable pub pattern : List ℕ → ℕ → ℕ → ℕ → ℕ → List ℕ
-pattern vram lcdc tile attribute row =
-    mirrored (xFlip attribute) (tileRow vram (bankOf attribute) (tileAddress lcdc tile + 2 * tileLine (yFlip attribute) row))
+pattern vram lcdc tile attribute row = mirrored (xFlip attribute) (rowAt vram (bgAddress lcdc tile attribute row))
 
 -- a fetch at an address of the map: the number is in bank 0, the attribute in bank 1
 abbrev pub fetchAt : List ℕ → ℕ → ℕ → ℕ → Fetched
@@ -35,8 +40,8 @@ abbrev pub fetchTile : List ℕ → ℕ → Bool → ℕ → ℕ → Fetched
 fetchTile vram lcdc high row column = fetchAt vram lcdc (mapAddress high row column) row
 
 -- outside colour mode LCDC bit 0 clear takes the background away
-abbrev pub blanked : Bool → ℕ → Bool
-blanked colour lcdc = not colour && not (bitAt lcdc 0)
+abbrev pub bgOff : Bool → ℕ → Bool
+bgOff cgb lcdc = not cgb && not (bitAt lcdc 0)
 
 -- then: eight 0s with attribute 0
 abbrev pub noTile : Fetched
@@ -54,4 +59,4 @@ fetchScrolled vram f =
 -- a fetch of the background or the window
 unfoldable pub fetchBg : List ℕ → Fetch → Fetched
 fetchBg vram f =
-    cond (blanked (f .cgb) (f .lcdc)) noTile (cond (f .window) (fetchWindow vram f) (fetchScrolled vram f))
+    cond (bgOff (f .cgb) (f .lcdc)) noTile (cond (f .window) (fetchWindow vram f) (fetchScrolled vram f))

@@ -3,18 +3,26 @@ ghost use mathlib.Core.Path.{_≡_};
 ghost use mathlib.Core.List.{reverse};
 ghost use Prim.Native.Nat.{_<_, _≤_};
 ghost use lib.ListN.{length};
-ghost use Rattle.tiles.specs.Tile.{byteAt, colourIn, rowOf, tileRow, mirrored, tileAddress};
-ghost use Rattle.tiles.specs.Map.{mapAddress, tileLine, pattern, fetchTile, blanked, noTile, fetchBg};
-ghost use Rattle.tiles.specs.Objects.{spriteLine, firstTile, spriteRow, startsLeft, startsAt, spriteColours};
+ghost use Rattle.hardware.specs.Tables.{bankBytes, vramBytes};
+ghost use Rattle.tiles.specs.Tile.{byteAt, colourIn, rowOf, rowAt, mirrored, tileAddress};
+ghost use Rattle.tiles.specs.Map.{mapAddress, tileLine, bgAddress, pattern, fetchTile, bgOff, noTile, fetchBg};
+ghost use Rattle.tiles.specs.Objects.{spriteLine, firstTile, spriteAddress, spriteRow, startsLeft, startsAt, spriteColours};
 use bg_attribs::BgAttribute;
+use hardware::Machine;
 use sprite::Sprite;
 
-// The byte of a bank at an address, modulo 8192.
-pub fn read_vram(vram: &[u8], bank: u8, addr: u16) -> u8
-    requires { ⌜ (length (now vram) ≡ 16384) × (bank ≤ 1) ⌝ }
+// Where a row stands in VRAM: its bank, and the offset of its first byte in it.
+pub struct Address {
+    pub bank: u8,
+    pub offset: u16,
+}
+
+// The byte of a bank at an address, modulo the bank's bytes.
+pub fn read_vram_banked(vram: &[u8], bank: u8, addr: u16) -> u8
+    requires { ⌜ (length (now vram) ≡ vramBytes) × (bank ≤ 1) ⌝ }
     ensures { λ r. ⌜ r ≡ byteAt (now (vram .entry)) bank addr ⌝ }
 {
-    vram[8192 * bank as usize + (addr % 8192) as usize]
+    vram[Machine::BANK_BYTES as usize * bank as usize + (addr % Machine::BANK_BYTES) as usize]
 }
 
 // The colour in bit n of a row.
@@ -41,14 +49,13 @@ pub fn row_of(low: u8, high: u8) -> [u8; 8]
     ]
 }
 
-// The row whose two bytes are at an address and the one after it, each modulo 8192.
-pub fn tile_row(vram: &[u8], bank: u8, addr: u16) -> [u8; 8]
-    requires { ⌜ (length (now vram) ≡ 16384) × (bank ≤ 1) ⌝ }
-    ensures { λ r. ⌜ r ≡ tileRow (now (vram .entry)) bank addr ⌝ }
+// The row that stands at an address: rows are read here and nowhere else.
+pub fn read_row(vram: &[u8], address: Address) -> [u8; 8]
+    requires { ⌜ (length (now vram) ≡ vramBytes) × (address .bank ≤ 1) × (address .offset < bankBytes) ⌝ }
+    ensures { λ r. ⌜ r ≡ rowAt (now (vram .entry)) address ⌝ }
 {
-    let at = addr % 8192;
-    let low = read_vram(vram, bank, at);
-    let high = read_vram(vram, bank, at + 1);
+    let low = read_vram_banked(vram, address.bank, address.offset);
+    let high = read_vram_banked(vram, address.bank, address.offset + 1);
     row_of(low, high)
 }
 
@@ -105,14 +112,24 @@ pub fn tile_line(flip: bool, row: u8) -> u8
     if flip { 7 - row % 8 } else { row % 8 }
 }
 
-// The colours of a tile by its number, its attribute and the row of the map.
-pub fn pattern_of(vram: &[u8], lcdc: u8, tile: u8, attribute: BgAttribute, row: u8) -> [u8; 8]
-    requires { ⌜ length (now vram) ≡ 16384 ⌝ }
-    ensures { λ r. ⌜ r ≡ pattern (now (vram .entry)) lcdc tile (attribute .bits) row ⌝ }
+// Where the row of a tile stands, by its number, its attribute and the row of the map.
+pub fn bg_address(lcdc: u8, tile: u8, attribute: BgAttribute, row: u8) -> Address
+    ensures { λ r. ⌜ r ≡ bgAddress lcdc tile (attribute .bits) row ⌝ }
 {
     let line = tile_line(attribute.is_vertical_flip(), row);
     let at = tile_address(lcdc, tile) + 2 * line as u16;
-    let colors = tile_row(vram, attribute.bank(), at);
+    Address {
+        bank: attribute.bank(),
+        offset: at % Machine::BANK_BYTES,
+    }
+}
+
+// The colours of a tile by its number, its attribute and the row of the map.
+pub fn pattern_of(vram: &[u8], lcdc: u8, tile: u8, attribute: BgAttribute, row: u8) -> [u8; 8]
+    requires { ⌜ length (now vram) ≡ vramBytes ⌝ }
+    ensures { λ r. ⌜ r ≡ pattern (now (vram .entry)) lcdc tile (attribute .bits) row ⌝ }
+{
+    let colors = read_row(vram, bg_address(lcdc, tile, attribute, row));
     mirror(attribute.is_horizontal_flip(), colors)
 }
 
@@ -124,12 +141,12 @@ pub struct Fetched {
 
 // The tile row of a map at a row of places and a column of tiles.
 pub fn fetch_tile(vram: &[u8], lcdc: u8, high: bool, row: u8, column: u8) -> Fetched
-    requires { ⌜ length (now vram) ≡ 16384 ⌝ }
+    requires { ⌜ length (now vram) ≡ vramBytes ⌝ }
     ensures { λ r. ⌜ r ≡ fetchTile (now (vram .entry)) lcdc high row column ⌝ }
 {
     let place = map_address(high, row, column);
-    let tile = read_vram(vram, 0, place);
-    let attribute = BgAttribute::new(read_vram(vram, 1, place));
+    let tile = read_vram_banked(vram, 0, place);
+    let attribute = BgAttribute::new(read_vram_banked(vram, 1, place));
     let colors = pattern_of(vram, lcdc, tile, attribute, row);
     Fetched {
         row: colors,
@@ -151,10 +168,10 @@ pub struct Fetch {
 }
 
 // Whether the background is taken away.
-fn is_blanked(colour: bool, lcdc: u8) -> bool
-    ensures { λ r. ⌜ r ≡ blanked colour lcdc ⌝ }
+fn is_bg_off(cgb: bool, lcdc: u8) -> bool
+    ensures { λ r. ⌜ r ≡ bgOff cgb lcdc ⌝ }
 {
-    if colour {
+    if cgb {
         return false;
     }
     !wrap::bit(lcdc, 0)
@@ -171,10 +188,10 @@ fn no_tile() -> Fetched
 
 // The tile row of a fetch, in the window or scrolled; eight 0s outside colour mode with LCDC bit 0 clear.
 pub fn fetch_bg(vram: &[u8], f: Fetch) -> Fetched
-    requires { ⌜ length (now vram) ≡ 16384 ⌝ }
+    requires { ⌜ length (now vram) ≡ vramBytes ⌝ }
     ensures { λ r. ⌜ r ≡ fetchBg (now (vram .entry)) f ⌝ }
 {
-    if is_blanked(f.cgb, f.lcdc) {
+    if is_bg_off(f.cgb, f.lcdc) {
         return no_tile();
     }
     if f.window {
@@ -186,34 +203,45 @@ pub fn fetch_bg(vram: &[u8], f: Fetch) -> Fetched
 }
 
 // The row of a sprite at y in a line.
-pub fn sprite_line(y: u8, line: u8, height: u8, flip: bool) -> u8
-    requires { ⌜ 0 < height ⌝ }
-    ensures { λ r. ⌜ r ≡ spriteLine y line height flip ⌝ }
+pub fn sprite_line(y: u8, line: u8, tall: u8, flip: bool) -> u8
+    requires { ⌜ 0 < tall ⌝ }
+    ensures { λ r. ⌜ r ≡ spriteLine y line tall flip ⌝ }
 {
     let row = wrap::wrapping_sub(line, wrap::wrapping_sub(y, 16));
     if flip {
-        wrap::wrapping_sub(height - 1, row) % height
+        wrap::wrapping_sub(tall - 1, row) % tall
     } else {
         row
     }
 }
 
 // The tile of a sprite's first row.
-pub fn first_tile(tile: u8, height: u8) -> u8
-    ensures { λ r. ⌜ r ≡ firstTile tile height ⌝ }
+pub fn first_tile(tile: u8, tall: u8) -> u8
+    ensures { λ r. ⌜ r ≡ firstTile tile tall ⌝ }
 {
-    if height == 16 { tile / 2 * 2 } else { tile }
+    if tall == 16 { tile / 2 * 2 } else { tile }
+}
+
+// Where the row of a sprite in a line stands.
+pub fn sprite_address(sprite: Sprite, line: u8, tall: u8) -> Address
+    requires { ⌜ 0 < tall ⌝ }
+    ensures { λ r. ⌜ r ≡ spriteAddress sprite line tall ⌝ }
+{
+    let row = sprite_line(sprite.y, line, tall, sprite.y_flipped());
+    let tile = first_tile(sprite.tile, tall);
+    let at = 0x8000 + 16 * tile as u16 + 2 * row as u16;
+    Address {
+        bank: sprite.bank(),
+        offset: at % Machine::BANK_BYTES,
+    }
 }
 
 // The eight colours of a sprite in a line.
-pub fn sprite_row(vram: &[u8], sprite: Sprite, line: u8, height: u8) -> [u8; 8]
-    requires { ⌜ (length (now vram) ≡ 16384) × (0 < height) ⌝ }
-    ensures { λ r. ⌜ r ≡ spriteRow (now (vram .entry)) sprite line height ⌝ }
+pub fn sprite_row(vram: &[u8], sprite: Sprite, line: u8, tall: u8) -> [u8; 8]
+    requires { ⌜ (length (now vram) ≡ vramBytes) × (0 < tall) ⌝ }
+    ensures { λ r. ⌜ r ≡ spriteRow (now (vram .entry)) sprite line tall ⌝ }
 {
-    let row = sprite_line(sprite.y, line, height, sprite.y_flipped());
-    let tile = first_tile(sprite.tile, height);
-    let at = 16 * tile as u16 + 2 * row as u16;
-    let colors = tile_row(vram, sprite.bank(), at);
+    let colors = read_row(vram, sprite_address(sprite, line, tall));
     mirror(sprite.x_flipped(), colors)
 }
 
@@ -238,11 +266,11 @@ pub fn starts_at(sprite: Sprite, x: u8) -> bool
 }
 
 // The colours of a sprite that starts at column x: those left of column 0 are gone.
-pub fn sprite_colors(vram: &[u8], sprite: Sprite, line: u8, height: u8, x: u8) -> [u8; 8]
-    requires { ⌜ (length (now vram) ≡ 16384) × (0 < height) ⌝ }
-    ensures { λ r. ⌜ r ≡ spriteColours (now (vram .entry)) sprite line height x ⌝ }
+pub fn sprite_colors(vram: &[u8], sprite: Sprite, line: u8, tall: u8, x: u8) -> [u8; 8]
+    requires { ⌜ (length (now vram) ≡ vramBytes) × (0 < tall) ⌝ }
+    ensures { λ r. ⌜ r ≡ spriteColours (now (vram .entry)) sprite line tall x ⌝ }
 {
-    let colors = sprite_row(vram, sprite, line, height);
+    let colors = sprite_row(vram, sprite, line, tall);
     if starts_left(sprite, x) {
         return sprite::move_left(colors, sprite.x);
     }

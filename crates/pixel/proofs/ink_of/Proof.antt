@@ -16,7 +16,10 @@ bg-priority-requires : tie.Need-bg-priority-requires
 bg-priority-requires c κs = search needs
 
 returns : tie.Need-returns
-returns c = rw (c .bg-priority .ensures, c .before .dmg-palette .ensures, c .before .before .get-palette .ensures, c .before .before .before .selector-of .ensures)
+returns c =
+    let number = c .before in
+    let chosen = number .before in
+    rw (c .bg-priority .ensures, number .dmg-palette .ensures, chosen .get-palette .ensures, chosen .before .selector-of .ensures)
 
 pub ink-of-spec : {M : Type 1} → statement M
 ink-of-spec =

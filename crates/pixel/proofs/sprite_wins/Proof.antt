@@ -29,29 +29,35 @@ returns-2 c =
 returns-3 : tie.Need-returns-3
 unfolding wins
 returns-3 c =
-    let b = c .before .before .before in
-    let r = b .before .before .args .r in
-    rw (ne-eqb _ _ (b .if1 .left), eq-eqb _ _ (c .if4 .taken)) (or-true (r .cgb && not (bitAt (r .lcdc) 0)))
+    let asked = c .before .before in
+    let shown = asked .before in
+    let r = shown .before .before .args .r in
+    rw (ne-eqb _ _ (shown .if1 .left), eq-eqb _ _ (c .if4 .taken)) (or-true (r .cgb && not (bitAt (r .lcdc) 0)))
 
 returns-4 : tie.Need-returns-4
 unfolding wins
 returns-4 c =
-    let j = c .before .before .before in
-    let r = j .before .before .before .args .r in
-    let shown : r .cgb && not (bitAt (r .lcdc) 0) ≡ false =
-    ⊎-elim (λ w. rw (w .0 .taken, ← w .1 .ensures, w .2 .left)) (λ w. rw (w .left)) (j .if2 .came)
+    let behind = c .before in
+    let asked = behind .before .before in
+    let shown = asked .before in
+    let r = shown .before .before .args .r in
+    let ranked : r .cgb && not (bitAt (r .lcdc) 0) ≡ false =
+    ⊎-elim (λ w. rw (w .0 .taken, ← w .1 .ensures, w .2 .left)) (λ w. rw (w .left)) (asked .if2 .came)
     in
-    rw (ne-eqb _ _ (j .before .if1 .left), shown, ne-eqb _ _ (c .before .if4 .left), c .if5 .taken)
+    rw (ne-eqb _ _ (shown .if1 .left), ranked, ne-eqb _ _ (behind .if4 .left), c .if5 .taken)
 
 returns-5 : tie.Need-returns-5
 unfolding wins
 returns-5 c =
-    let j = c .before .before .before .before in
-    let r = j .before .before .before .args .r in
-    let shown : r .cgb && not (bitAt (r .lcdc) 0) ≡ false =
-    ⊎-elim (λ w. rw (w .0 .taken, ← w .1 .ensures, w .2 .left)) (λ w. rw (w .left)) (j .if2 .came)
+    let plain = c .before in
+    let behind = plain .before in
+    let asked = behind .before .before in
+    let shown = asked .before in
+    let r = shown .before .before .args .r in
+    let ranked : r .cgb && not (bitAt (r .lcdc) 0) ≡ false =
+    ⊎-elim (λ w. rw (w .0 .taken, ← w .1 .ensures, w .2 .left)) (λ w. rw (w .left)) (asked .if2 .came)
     in
-    rw (ne-eqb _ _ (j .before .if1 .left), shown, ne-eqb _ _ (c .before .before .if4 .left), c .before .if5 .left)
+    rw (ne-eqb _ _ (shown .if1 .left), ranked, ne-eqb _ _ (behind .if4 .left), plain .if5 .left)
 
 pub sprite-wins-spec : {M : Type 1} → statement M
 sprite-wins-spec =

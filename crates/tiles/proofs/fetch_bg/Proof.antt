@@ -7,15 +7,15 @@ use Rattle.tiles.specs.Map.{fetchBg}
 use Rattle.tiles.proofs.fetch_bg.Statement.{statement}
 use Rattle.tiles.proofs.fetch_bg.Tie as tie
 
-is-blanked-requires : tie.Need-is-blanked-requires
-is-blanked-requires c κs = search needs
+is-bg-off-requires : tie.Need-is-bg-off-requires
+is-bg-off-requires c κs = search needs
 
 no-tile-requires : tie.Need-no-tile-requires
 no-tile-requires c κs = search needs
 
 returns : tie.Need-returns
 unfolding fetchBg
-returns c = rw (← c .before .before .is-blanked .ensures, c .before .if1 .taken, c .no-tile .ensures)
+returns c = rw (← c .before .before .is-bg-off .ensures, c .before .if1 .taken, c .no-tile .ensures)
 
 bit-requires : tie.Need-bit-requires
 bit-requires c κs = search needs
@@ -27,7 +27,7 @@ returns-2 : tie.Need-returns-2
 unfolding fetchBg
 returns-2 c =
     let b = c .before .before in
-    rw (← b .before .before .is-blanked .ensures, b .before .if1 .left, b .if2 .taken, c .fetch-tile .ensures, c .before .bit .ensures)
+    rw (← b .before .before .is-bg-off .ensures, b .before .if1 .left, b .if2 .taken, c .fetch-tile .ensures, c .before .bit .ensures)
 
 cast-row : tie.Need-cast-row
 cast-row c = search needs
@@ -53,16 +53,19 @@ fetch-tile-requires-2 c κs = search needs
 returns-3 : tie.Need-returns-3
 unfolding fetchBg
 returns-3 c =
-    let b = c .before .before .before .before .before .before in
-    let f = b .before .before .before .before .args .f in
+    let row = c .before .before in
+    let added = row .before .before in
+    let b = added .before .before in
+    let test = b .before .before in
+    let f = test .before .before .args .f in
     let column : (f .scx / 8 + f .column % 32) % 32 ≡ (f .scx / 8 + f .column) % 32 = omega arith in
-    rw (← b .before .before .is-blanked .ensures, b .before .if1 .left, b .if2 .left, c .fetch-tile2 .ensures, c .before .bit2 .ensures, column)
+    rw (← test .is-bg-off .ensures, b .before .if1 .left, b .if2 .left, c .fetch-tile2 .ensures, c .before .bit2 .ensures, column)
 
 pub fetch-bg-spec : {M : Type 1} → statement M
 fetch-bg-spec =
     tie.close
     (tie.spec
-    is-blanked-requires
+    is-bg-off-requires
     no-tile-requires
     returns
     bit-requires

@@ -1,17 +1,27 @@
 -- `tiles::fetch_tile` meets its contract.
+use mathlib.Core.Path.{_≡_, ap, _∙_}
+use mathlib.Core.List.{List}
+use Prim.Native.Nat.{ℕ}
 use borrow.Author.Needs.{needs}
-use Rattle.tiles.proofs.Rows.{fetched-of}
+use Rattle.bg_attribs.specs.declared.BgAttribute.{BgAttribute}
+use Rattle.tiles.specs.declared.Fetched.{Fetched}
 use Rattle.tiles.proofs.fetch_tile.Statement.{statement}
 use Rattle.tiles.proofs.fetch_tile.Tie as tie
+
+-- a row and an attribute, each by what is known of it
+fetched-of : {row row′ : List ℕ} {a : BgAttribute} {bits : ℕ} → row ≡ row′ → a .bits ≡ bits
+    → _≡_ {A = Fetched} (record { row = row; attribute = a }) (record { row = row′; attribute = record { bits = bits } })
+fetched-of {row} {row′} {a} {bits} e f =
+    ap (λ (l : List ℕ). record { row = l; attribute = a }) e ∙ ap (λ (n : ℕ). record { row = row′; attribute = record { bits = n } }) f
 
 map-address-requires : tie.Need-map-address-requires
 map-address-requires c κs = search needs
 
-read-vram-requires : tie.Need-read-vram-requires
-read-vram-requires c κs = search needs
+read-vram-banked-requires : tie.Need-read-vram-banked-requires
+read-vram-banked-requires c κs = search needs
 
-read-vram-requires-2 : tie.Need-read-vram-requires-2
-read-vram-requires-2 c κs = search needs
+read-vram-banked-requires-2 : tie.Need-read-vram-banked-requires-2
+read-vram-banked-requires-2 c κs = search needs
 
 new-requires : tie.Need-new-requires
 new-requires c κs = search needs
@@ -23,16 +33,16 @@ returns : tie.Need-returns
 returns c =
     let b = c .before .before in
     let place = b .before .before .map-address .ensures in
-    let bits = simp (b .read-vram2 .ensures, place) at (c .before .new .ensures) in
-    fetched-of (simp (c .pattern-of .ensures, bits, b .before .read-vram .ensures, place)) bits
+    let bits = simp (b .read-vram-banked2 .ensures, place) at (c .before .new .ensures) in
+    fetched-of (simp (c .pattern-of .ensures, bits, b .before .read-vram-banked .ensures, place)) bits
 
 pub fetch-tile-spec : {M : Type 1} → statement M
 fetch-tile-spec =
     tie.close
     (tie.spec
     map-address-requires
-    read-vram-requires
-    read-vram-requires-2
+    read-vram-banked-requires
+    read-vram-banked-requires-2
     new-requires
     pattern-of-requires
     returns)

@@ -31,9 +31,11 @@ color-in-requires-8 c κs = search needs
 returns : tie.Need-returns
 unfolding rowOf
 returns c =
-    let b = c .before .before .before .before in
+    let sixth = c .before .before in
+    let fourth = sixth .before .before in
+    let second = fourth .before .before in
     simp
-    (b .before .before .before .color-in .ensures, b .before .before .color-in2 .ensures, b .before .color-in3 .ensures, b .color-in4 .ensures, c .before .before .before .color-in5 .ensures, c .before .before .color-in6 .ensures, c .before .color-in7 .ensures, c .color-in8 .ensures)
+    (second .before .color-in .ensures, second .color-in2 .ensures, fourth .before .color-in3 .ensures, fourth .color-in4 .ensures, sixth .before .color-in5 .ensures, sixth .color-in6 .ensures, c .before .color-in7 .ensures, c .color-in8 .ensures)
 
 pub row-of-spec : {M : Type 1} → statement M
 row-of-spec =

@@ -15,7 +15,9 @@ move-left-requires c κs = search needs
 
 returns : tie.Need-returns
 unfolding spriteColours
-returns c = rw (← c .before .before .starts-left .ensures, c .before .if1 .taken, c .move-left .ensures, c .before .before .before .sprite-row .ensures)
+returns c =
+    let test = c .before .before in
+    rw (← test .starts-left .ensures, c .before .if1 .taken, c .move-left .ensures, test .before .sprite-row .ensures)
 
 returns-2 : tie.Need-returns-2
 unfolding spriteColours

@@ -19,7 +19,9 @@ rem-result : tie.Need-rem-result
 rem-result c = search needs
 
 returns : tie.Need-returns
-returns c = rw (c .before .if1 .taken, c .wrapping-sub3 .ensures, c .before .before .wrapping-sub2 .ensures, c .before .before .before .wrapping-sub .ensures)
+returns c =
+    let row = c .before .before in
+    rw (c .before .if1 .taken, c .wrapping-sub3 .ensures, row .wrapping-sub2 .ensures, row .before .wrapping-sub .ensures)
 
 returns-2 : tie.Need-returns-2
 returns-2 c = rw (c .if1 .left, c .before .wrapping-sub2 .ensures, c .before .before .wrapping-sub .ensures)

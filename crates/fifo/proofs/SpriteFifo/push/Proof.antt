@@ -1,15 +1,77 @@
 -- `fifo::SpriteFifo::push` meets its contract. The invariant: the first k pixels of the mix are laid from the head on.
-use mathlib.Core.Path.{_≡_, refl}
+use mathlib.Core.Path.{_≡_, refl, sym, _∙_}
+use mathlib.Core.Bool.{Bool}
+use mathlib.Core.List.{List, [], _∷_}
 use mathlib.Core.Logic.{⊎-elim}
-use Prim.Native.Nat.{_≤_, _-_}
+use Prim.Native.Nat.{ℕ, zero, suc, _+_, _-_, _%_, _≤_, _<_}
 use native.Mathlib.Omega.{arith}
 use borrow.Author.Needs.{needs}
-use lib.ListN.{length, take}
+use lib.ListN.{length, take, getD, set}
+use lib.Seq.{take-all, length-take-le}
+use Rattle.fifo.specs.declared.SpriteFifoPixel.{SpriteFifoPixel}
+use Rattle.fifo.specs.declared.SpriteFifo.{SpriteFifo}
 use Rattle.fifo.specs.Ring.{laid}
-use Rattle.fifo.specs.Sprites.{spriteQueued, inkedRow, merged}
-use Rattle.fifo.proofs.Sprites.{mixing-over, mixing-new, mixing-all}
+use Rattle.fifo.specs.Sprites.{spriteBlank, spriteQueued, inked, inkedRow, over, merged, spritePushed}
+use Rattle.fifo.proofs.Ring.{live-at, laid-more, laid-past, map-at}
+use Rattle.fifo.proofs.Sprites.{sprite-length, inked-row-length, mix-length}
 use Rattle.fifo.proofs.SpriteFifo.push.Statement.{statement}
 use Rattle.fifo.proofs.SpriteFifo.push.Tie as tie
+
+-- the mix: pixel by pixel the older or the newer, and the row's own past the older ones
+module _ (coord : Bool) where
+  merged-over : (old row : List SpriteFifoPixel) (k : ℕ) (d : SpriteFifoPixel) → k < length old → k < length row
+      → getD (merged coord old row) k d ≡ over coord (getD old k d) (getD row k d)
+  unfolding merged
+  merged-over [] row k d h l = absurd (omega arith)
+  merged-over (o ∷ old) [] k d h l = absurd (omega arith)
+  merged-over (o ∷ old) (n ∷ row) zero d h l = refl
+  merged-over (o ∷ old) (n ∷ row) (suc k) d h l = merged-over old row k d (omega arith) (omega arith)
+
+  merged-new : (old row : List SpriteFifoPixel) (k : ℕ) (d : SpriteFifoPixel) → length old ≤ k → k < length row
+      → getD (merged coord old row) k d ≡ getD row k d
+  unfolding merged
+  merged-new [] row k d h l = refl
+  merged-new (o ∷ old) [] k d h l = absurd (omega arith)
+  merged-new (o ∷ old) (n ∷ row) zero d h l = absurd (omega arith)
+  merged-new (o ∷ old) (n ∷ row) (suc k) d h l = merged-new old row k d (omega arith) (omega arith)
+
+-- the slots while a row is pushed: after k pixels, and after all
+module _ (coord : Bool) (q : SpriteFifo) (ink : SpriteFifoPixel) (colours : List ℕ) (eight : length colours ≡ 8) (fits : q .len ≤ 8) where
+  abbrev mix : List SpriteFifoPixel
+  mix = merged coord (spriteQueued q) (inkedRow ink colours)
+
+  mix-eight : length mix ≡ 8
+  mix-eight = mix-length coord q (inkedRow ink colours) (inked-row-length ink colours ∙ eight) fits
+
+  -- pixel k of the mix, where one waits and where none does
+  mix-over : (k : ℕ) → k < q .len
+      → getD mix k spriteBlank ≡ over coord (getD (laid 8 (q .pixels) (q .head) (take k mix)) ((q .head + k) % 8) spriteBlank) (inked ink (getD colours k 0))
+  mix-over k h =
+      let row = inkedRow ink colours in
+      let both-there = merged-over coord (spriteQueued q) row k spriteBlank (rw (sprite-length q) h) (rw (inked-row-length ink colours, eight) (omega arith)) in
+      let taken : length (take k mix) ≤ k = rw (length-take-le k mix (rw mix-eight (omega arith))) (omega arith) in
+      let waits = live-at 8 spriteBlank (q .pixels) (q .head) (q .len) k h ∙ sym (laid-past 8 spriteBlank (q .pixels) (q .head) (take k mix) k taken (omega arith)) in
+      both-there ∙ rw (waits, map-at (inked ink) colours k 0 spriteBlank (rw eight (omega arith)))
+
+  mix-new : (k : ℕ) → q .len ≤ k → k < 8 → getD mix k spriteBlank ≡ inked ink (getD colours k 0)
+  mix-new k h l =
+      merged-new coord (spriteQueued q) (inkedRow ink colours) k spriteBlank (rw (sprite-length q) h) (rw (inked-row-length ink colours, eight) l)
+      ∙ map-at (inked ink) colours k 0 spriteBlank (rw eight l)
+
+  module _ {pixels : List SpriteFifoPixel} {new : SpriteFifoPixel} (k : ℕ) (less : k < 8)
+      (w : pixels ≡ laid 8 (q .pixels) (q .head) (take k mix)) (colour : new ≡ inked ink (getD colours k 0)) where
+    mixing-over : {kept : SpriteFifoPixel} → k < q .len → kept ≡ over coord (getD pixels ((q .head + k) % 8) spriteBlank) new
+        → set pixels ((q .head + k) % 8) kept ≡ laid 8 (q .pixels) (q .head) (take (k + 1) mix)
+    mixing-over h e =
+        rw (e, w, colour, ← mix-over k h) (laid-more 8 spriteBlank (q .pixels) (q .head) mix k (rw mix-eight less))
+
+    mixing-new : q .len ≤ k → set pixels ((q .head + k) % 8) new ≡ laid 8 (q .pixels) (q .head) (take (k + 1) mix)
+    mixing-new h =
+        rw (w, colour, ← mix-new k h less) (laid-more 8 spriteBlank (q .pixels) (q .head) mix k (rw mix-eight less))
+
+  mixing-all : {pixels : List SpriteFifoPixel} (k : ℕ) → k ≡ 8 → pixels ≡ laid 8 (q .pixels) (q .head) (take k mix)
+      → _≡_ {A = SpriteFifo} (record { pixels = pixels; head = q .head; len = 8 }) (spritePushed coord q (inkedRow ink colours))
+  mixing-all k e w = rw (w, take-all k mix (rw (mix-eight, e) (omega arith)))
 
 abbrev Inv-loop : tie.InvT-loop
 Inv-loop self ink coord colors pixels₀ head len k₀ pixels k =
@@ -66,8 +128,10 @@ loop-less c = omega arith
 
 loop-again : tie.Need-loop-again Inv-loop μ-loop
 loop-again c =
-    let l = c .before .before .before in
-    let s = l .before .before .before .before in
+    let inner = c .before .before in
+    let l = inner .before in
+    let head = l .before .before in
+    let s = head .before .before in
     let eight : length (s .args .t2) ≡ 8 = omega (arith, s .good) in
     ⊎-elim
     (λ w. (omega arith, rw (w .3) (mixing-over (s .args .coord) (s .args .self) (s .args .ink) (s .args .t2) eight (s .pre) (l .loop .k) (omega arith) (l .loop .inv .1) (c .before .inked .ensures) (w .0 .taken) (w .2 .ensures))))
@@ -77,7 +141,8 @@ loop-again c =
 returns : tie.Need-returns Inv-loop μ-loop
 returns c =
     let l = c .before in
-    let s = l .before .before .before .before in
+    let head = l .before .before in
+    let s = head .before .before in
     mixing-all (s .args .coord) (s .args .self) (s .args .ink) (s .args .t2) (omega (arith, s .good)) (s .pre) (l .loop .k) (omega arith) (l .loop .inv .1)
 
 pub push-spec : {M : Type 1} → statement M
