@@ -36,14 +36,8 @@ fresh-fine m =
       selection = record { slots = refl; count = omega arith; indexes = refl };
       pipe =
           record {
-            rowSize = refl;
-            bgSize = refl;
-            objSize = refl;
-            delay = omega arith;
-            fetched = refl;
-            bgLen = omega arith;
-            bgColours = refl;
-            objLen = omega arith;
-            objPixels = refl;
+            fetcher = record { size = refl; delay = omega arith; colours = refl };
+            bg = record { size = refl; len = omega arith; pixels = refl };
+            obj = record { size = refl; len = omega arith; pixels = refl };
           };
     }
