@@ -20,7 +20,12 @@ colourAt p i = colourOf (wordAt p i)
 -- the four colours of a list
 abbrev pub paletteOf : List Color → ColorPalette
 paletteOf cs =
-    record { c0 = rawOf (getD cs 0 (colourOf 0)); c1 = rawOf (getD cs 1 (colourOf 0)); c2 = rawOf (getD cs 2 (colourOf 0)); c3 = rawOf (getD cs 3 (colourOf 0)) }
+    record {
+      c0 = rawOf (getD cs 0 (colourOf 0));
+      c1 = rawOf (getD cs 1 (colourOf 0));
+      c2 = rawOf (getD cs 2 (colourOf 0));
+      c3 = rawOf (getD cs 3 (colourOf 0));
+    }
 
 -- the word at byte i, low byte first
 abbrev pub word : List ℕ → ℕ → ℕ
@@ -29,7 +34,12 @@ word bytes i = getD bytes i 0 + getD bytes (i + 1) 0 * 256
 -- palette p of the eight, p modulo 8
 abbrev pub palette : List ℕ → ℕ → ColorPalette
 palette bytes p =
-    record { c0 = word bytes (p % 8 * 8); c1 = word bytes (p % 8 * 8 + 2); c2 = word bytes (p % 8 * 8 + 4); c3 = word bytes (p % 8 * 8 + 6) }
+    record {
+      c0 = word bytes (p % 8 * 8);
+      c1 = word bytes (p % 8 * 8 + 2);
+      c2 = word bytes (p % 8 * 8 + 4);
+      c3 = word bytes (p % 8 * 8 + 6);
+    }
 
 -- the eight bytes of a palette
 abbrev pub bytesOf : ColorPalette → List ℕ
@@ -69,8 +79,9 @@ dataRead s = getD (s .bytes) (s .index) 0
 abbrev pub paletteSet : PaletteSet → ℕ → ColorPalette → PaletteSet
 paletteSet s p q = record { bytes = sets (s .bytes) (p % 8 * 8) (bytesOf q); index = s .index; auto = s .auto }
 
--- the four greys of the start, from white to black
+-- a colour of equal parts, and the four greys of the start, from white to black
+abbrev pub grey : ℕ → Color
+grey v = record { r = v; g = v; b = v }
+
 abbrev pub greys : ColorPalette
-greys =
-    paletteOf
-    (record { r = 31; g = 31; b = 31 } ∷ record { r = 21; g = 21; b = 21 } ∷ record { r = 10; g = 10; b = 10 } ∷ record { r = 0; g = 0; b = 0 } ∷ [])
+greys = paletteOf (grey 31 ∷ grey 21 ∷ grey 10 ∷ grey 0 ∷ [])

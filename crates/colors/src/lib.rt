@@ -4,7 +4,8 @@ ghost use Prim.Native.Nat.{_<_, _+_, _*_, _/_, _%_};
 ghost use lib.ListN.{set};
 ghost use Rattle.colors.specs.Colour.{colourOf, rawOf};
 ghost use Rattle.colors.specs.Shade.{shade};
-ghost use Rattle.colors.specs.Palettes.{colourAt, paletteOf, palette, freshSet, indexWritten, dataWritten, indexRead, dataRead, paletteSet, greys, word};
+ghost use Rattle.colors.specs.Palettes.{colourAt, paletteOf, palette, paletteSet, greys, word};
+ghost use Rattle.colors.specs.Palettes.{freshSet, indexWritten, dataWritten, indexRead, dataRead};
 
 pub struct Color {
     pub r: u8,

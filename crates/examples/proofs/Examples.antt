@@ -1,5 +1,5 @@
 -- Every example of the table holds, each by computing.
-use mathlib.Core.Path.{_≡_, refl}
+use mathlib.Core.Path.{refl}
 use Rattle.lcd.specs.Mix.{mix}
 use Rattle.registers.specs.Registers.{keptIn, writable}
 use Rattle.registers.specs.Write.{registersWritten}

@@ -1,2 +1,3 @@
 -- The laws of `lcd` that belong to no one function.
+-- the choice between the two pictures
 pub mod Chosen

@@ -1,11 +1,13 @@
--- 01, "Start and switching off": the fresh state of a device, and the lent memory after a start.
-use Prim.Native.Nat.{ℕ}
+-- 01, "Start and switching off": the fresh state of a machine, and the lent memory after a start.
 use mathlib.Core.Path.{_≡_}
-use mathlib.Core.Bool.{Bool, true, false, not, cond, _&&_}
-use mathlib.Core.List.{List}
+use mathlib.Core.Bool.{Bool, false, not, cond, _&&_}
 use lib.ListN.{length, replicate}
+use Rattle.hardware.specs.Screen.{lastLine}
+use Rattle.hardware.specs.Tables.{Tables, tables}
+use Rattle.hardware.specs.declared.Machine.{Machine}
 use Rattle.colors.specs.Palettes.{freshSet, paletteSet, greys}
 use Rattle.sprite.specs.Pick.{blankSlots}
+use Rattle.lcd.specs.Pictures.{Pictures, filledWith}
 use Rattle.fifo.specs.Background.{bgFresh}
 use Rattle.fifo.specs.Sprites.{spriteFresh}
 use Rattle.state.specs.declared.Registers.{Registers}
@@ -16,12 +18,12 @@ use Rattle.state.specs.declared.Beam.{Beam}
 use Rattle.state.specs.declared.State.{State}
 
 -- colour mode holds only if the device is not DMG
-abbrev pub inColour : Bool → Bool → Bool
-inColour dmg colour = not dmg && colour
+abbrev pub inColour : Machine → Bool
+inColour m = not (m .dmg) && m .cgb
 
 -- LCDC 91, BGP FC, OBP0 and OBP1 FF, mode 1; priority by coordinate outside colour mode, else by index
 abbrev pub freshRegisters : Bool → Registers
-freshRegisters colour =
+freshRegisters cgb =
     record {
       lcdc = 0x91;
       stat = 1;
@@ -35,16 +37,16 @@ freshRegisters colour =
       wy = 0;
       wx = 0;
       vbk = 0;
-      coord = not colour;
-      colour = colour;
+      coord = not cgb;
+      cgb = cgb;
     }
 
 -- outside colour mode background palette 0 and sprite palettes 0 and 1 hold the greys
 abbrev pub freshPalettes : Bool → Palettes
-freshPalettes colour =
+freshPalettes cgb =
     record {
-      bg = cond colour freshSet (paletteSet freshSet 0 greys);
-      obj = cond colour freshSet (paletteSet (paletteSet freshSet 0 greys) 1 greys);
+      bg = cond cgb freshSet (paletteSet freshSet 0 greys);
+      obj = cond cgb freshSet (paletteSet (paletteSet freshSet 0 greys) 1 greys);
     }
 
 -- nothing fetched, nothing queued, out of the window
@@ -61,24 +63,27 @@ freshPipe =
 
 -- line 153, cycle 400; picture A shown
 abbrev pub freshBeam : Beam
-freshBeam = record { line = 153; cycle = 400; x = 0; shown = 0; count = 0; end = 0; level = false; on = false }
+freshBeam =
+    record { line = lastLine; cycle = 400; x = 0; shown = 0; count = 0; end = 0; level = false; turned = false }
 
--- the fresh state of a device, colour wanted or not
-unfoldable pub freshState : Bool → Bool → State
-freshState dmg colour =
+-- the fresh state of a machine
+unfoldable pub freshState : Machine → State
+freshState m =
     record {
-      machine = record { dmg = dmg };
-      regs = freshRegisters (inColour dmg colour);
-      palettes = freshPalettes (inColour dmg colour);
+      machine = m;
+      regs = freshRegisters (inColour m);
+      palettes = freshPalettes (inColour m);
       selection = record { count = 0; slots = blankSlots };
       pipe = freshPipe;
       beam = freshBeam;
     }
 
+-- both tables 0
+abbrev pub cleared : Tables → Tables
+cleared t = tables (replicate (length (t .vram)) 0) (replicate (length (t .oam)) 0)
+
 -- a start: the fresh state, VRAM and OAM 0, both pictures 255
-pub record Started (dmg colour : Bool) (vram oam a b : List ℕ) (n : State) (vram′ oam′ a′ b′ : List ℕ) : Type 0 where
-  pub state : n ≡ freshState dmg colour
-  pub cleared : vram′ ≡ replicate (length vram) 0
-  pub emptied : oam′ ≡ replicate (length oam) 0
-  pub pictureA : a′ ≡ replicate (length a) 255
-  pub pictureB : b′ ≡ replicate (length b) 255
+pub record Started (m : Machine) (t : Tables) (p : Pictures) (n : State) (t′ : Tables) (p′ : Pictures) : Type 0 where
+  pub state : n ≡ freshState m
+  pub tables : t′ ≡ cleared t
+  pub pictures : p′ ≡ filledWith 255 p

@@ -2,6 +2,8 @@
 ghost use mathlib.Core.Path.{_≡_};
 ghost use Prim.Native.Nat.{_<_, _≤_, _%_};
 ghost use lib.ListN.{length};
+ghost use Rattle.hardware.specs.Tables.{tables, vramBytes, oamBytes};
+ghost use Rattle.lcd.specs.Pictures.{pictures};
 ghost use Rattle.memory.specs.Fresh.{inColour, freshRegisters, freshPalettes, freshPipe, freshBeam, freshState, Started};
 ghost use Rattle.memory.specs.Writes.{vramWritten, oamWritten};
 use colors::PaletteSet;
@@ -18,17 +20,17 @@ use state::State;
 use state::Waiting;
 
 // Colour mode holds only if the device is not DMG.
-fn in_colour(dmg: bool, colour: bool) -> bool
-    ensures { λ r. ⌜ r ≡ inColour dmg colour ⌝ }
+fn in_colour(machine: Machine) -> bool
+    ensures { λ r. ⌜ r ≡ inColour machine ⌝ }
 {
-    if dmg {
+    if machine.dmg {
         return false;
     }
-    colour
+    machine.cgb
 }
 
-fn fresh_registers(colour: bool) -> Registers
-    ensures { λ r. ⌜ r ≡ freshRegisters colour ⌝ }
+fn fresh_registers(cgb: bool) -> Registers
+    ensures { λ r. ⌜ r ≡ freshRegisters cgb ⌝ }
 {
     Registers {
         lcdc: 0x91,
@@ -43,16 +45,16 @@ fn fresh_registers(colour: bool) -> Registers
         wy: 0,
         wx: 0,
         vbk: 0,
-        coord: !colour,
-        colour,
+        coord: !cgb,
+        cgb,
     }
 }
 
-fn fresh_palettes(colour: bool) -> Palettes
-    ensures { λ r. ⌜ r ≡ freshPalettes colour ⌝ }
+fn fresh_palettes(cgb: bool) -> Palettes
+    ensures { λ r. ⌜ r ≡ freshPalettes cgb ⌝ }
 {
     let fresh = PaletteSet::fresh();
-    if colour {
+    if cgb {
         return Palettes {
             bg: fresh,
             obj: fresh,
@@ -89,25 +91,24 @@ fn fresh_beam() -> Beam
     ensures { λ r. ⌜ r ≡ freshBeam ⌝ }
 {
     Beam {
-        line: 153,
+        line: Machine::LAST_LINE,
         cycle: 400,
         x: 0,
         shown: 0,
         count: 0,
         end: 0,
         level: false,
-        on: false,
+        turned: false,
     }
 }
 
-// The fresh state of a device, colour wanted or not.
-pub fn fresh_state(dmg: bool, colour: bool) -> State
-    ensures { λ r. ⌜ r ≡ freshState dmg colour ⌝ }
+// The fresh state of a machine.
+pub fn fresh_state(machine: Machine) -> State
+    ensures { λ r. ⌜ r ≡ freshState machine ⌝ }
 {
-    let mode = in_colour(dmg, colour);
-    let machine = Machine { dmg };
-    let regs = fresh_registers(mode);
-    let palettes = fresh_palettes(mode);
+    let cgb = in_colour(machine);
+    let regs = fresh_registers(cgb);
+    let palettes = fresh_palettes(cgb);
     let slots = sprite::blank();
     let selection = Selection { count: 0, slots };
     let pipe = fresh_pipe();
@@ -123,35 +124,31 @@ pub fn fresh_state(dmg: bool, colour: bool) -> State
 }
 
 // A start: the fresh state, VRAM and OAM 0, both pictures white.
-pub fn start(
-    dmg: bool,
-    colour: bool,
-    vram: &mut [u8],
-    oam: &mut [u8],
-    a: &mut [u8],
-    b: &mut [u8],
-) -> State
-    ensures { λ n. ⌜ Started dmg colour (now (vram .entry)) (now (oam .entry)) (now (a .entry)) (now (b .entry)) n (now (vram .exit)) (now (oam .exit)) (now (a .exit)) (now (b .exit)) ⌝ }
+pub fn start(machine: Machine, vram: &mut [u8], oam: &mut [u8], a: &mut [u8], b: &mut [u8]) -> State
+    ensures { λ n. ⌜ Started machine
+        (tables (now (vram .entry)) (now (oam .entry))) (pictures (now (a .entry)) (now (b .entry))) n
+        (tables (now (vram .exit)) (now (oam .exit))) (pictures (now (a .exit)) (now (b .exit))) ⌝ }
 {
     lcd::fill(vram, 0);
     lcd::fill(oam, 0);
     lcd::fill(a, 255);
     lcd::fill(b, 255);
-    fresh_state(dmg, colour)
+    fresh_state(machine)
 }
 
 // Stores a byte of VRAM at an address modulo 8,192 of a bank.
 pub fn write_vram(vram: &mut [u8], bank: u8, address: u16, value: u8)
-    requires { ⌜ (length (now vram) ≡ 16384) × (bank ≤ 1) ⌝ }
+    requires { ⌜ (length (now vram) ≡ vramBytes) × (bank ≤ 1) ⌝ }
     ensures { λ _. ⌜ now (vram .exit) ≡ vramWritten (now (vram .entry)) bank address value ⌝ }
 {
-    let at = 8192 * bank as usize + (address % 8192) as usize;
+    let at = Machine::BANK_BYTES as usize * bank as usize
+        + (address % Machine::BANK_BYTES) as usize;
     vram[at] = value;
 }
 
 // Stores a byte of OAM at the low byte of an address.
 pub fn write_oam(oam: &mut [u8], address: u16, value: u8)
-    requires { ⌜ (length (now oam) ≡ 160) × (address % 256 < 160) ⌝ }
+    requires { ⌜ (length (now oam) ≡ oamBytes) × (address % 256 < oamBytes) ⌝ }
     ensures { λ _. ⌜ now (oam .exit) ≡ oamWritten (now (oam .entry)) address value ⌝ }
 {
     let at = (address % 256) as usize;

@@ -1,3 +1,3 @@
 -- The laws of `oam_bug` that belong to no one function.
-pub mod Formulas
+-- lengths, the words of a row after a store, the bytes outside it
 pub mod Rows

@@ -1,26 +1,24 @@
 -- Laws of the corruptions: OAM keeps its length, a row holds the words stored in it, and bytes outside it stay.
 use mathlib.Core.Path.{_≡_, refl, _∙_}
-use mathlib.Core.Bool.{Bool, true, false, cond, _||_}
+use mathlib.Core.Bool.{_||_}
 use mathlib.Core.List.{List}
 use mathlib.Core.Logic.{_≢_}
-use Prim.Native.Nat.{ℕ, _+_, _-_, _*_, _/_, _%_, _<_, _≤_}
+use Prim.Native.Nat.{ℕ, _+_, _-_, _/_, _%_, _<_, _≤_}
 use native.Mathlib.Nat.{div-add-mod'}
 use native.Mathlib.Omega.{arith}
 use borrow.Author.Tests.{eqb-true}
 use lib.Dec.{eqb, ltb}
 use lib.ListN.{length, getD, set, length-set}
 use lib.Seq.{getD-set-same, getD-set-other}
-use Rattle.oam_bug.specs.Words.{oamBytes, oamRows, word, withWord, place, wordOf, withRow, rowFrom, rowCopied}
+use Rattle.logic.proofs.Tests.{by-test}
+use Rattle.oam_bug.specs.Words.{oamRows, word, withWord, place, wordOf, withRow, rowFrom, rowCopied}
 use Rattle.oam_bug.specs.Corruption.{rowAt, writeCorrupted, readCorrupted, beforeCorrupted, spread, aroundCorrupted, readWriteCorrupted}
 
 -- ---- the row is one of the twenty
 
 pub row-below : (mode cycle : ℕ) → (mode ≡ 2 → (4 ≤ cycle) × (cycle ≤ 83)) → rowAt mode cycle < oamRows
-row-below mode cycle h = by-test (eqb mode 2) (λ e. h (eqb-true mode 2 e))
-  where
-    by-test : (b : Bool) → (b ≡ true → (4 ≤ cycle) × (cycle ≤ 83)) → cond b ((cycle - 4) / 4) 0 < oamRows
-    by-test true k = let b = k refl in omega arith
-    by-test false k = omega arith
+row-below mode cycle h =
+    by-test (λ (r : ℕ). r < oamRows) (eqb mode 2) (λ e. let b = h (eqb-true mode 2 e) in omega arith) (λ e. omega arith)
 
 -- ---- length
 
@@ -39,23 +37,22 @@ pub length-row-copied : (l : List ℕ) (p r : ℕ) → length (rowCopied l p r) 
 unfolding rowCopied
 length-row-copied l p r = rw length-with-row
 
--- a test between two lists as long as a third
-either-length : (b : Bool) (l x y : List ℕ) → length x ≡ length l → length y ≡ length l → length (cond b x y) ≡ length l
-either-length true l x y p q = p
-either-length false l x y p q = q
+-- as long as another
+abbrev AsLong : List ℕ → List ℕ → Type 0
+AsLong l x = length x ≡ length l
 
 pub length-write : (l : List ℕ) (r : ℕ) → length (writeCorrupted l r) ≡ length l
 unfolding writeCorrupted
-length-write l r = either-length (eqb r 0) l _ _ refl (length-row-from l r _)
+length-write l r = by-test (AsLong l) (eqb r 0) (λ e. refl) (λ e. length-row-from l r _)
 
 pub length-read : (l : List ℕ) (r : ℕ) → length (readCorrupted l r) ≡ length l
 unfolding readCorrupted
-length-read l r = either-length (eqb r 0) l _ _ refl (length-row-from l r _)
+length-read l r = by-test (AsLong l) (eqb r 0) (λ e. refl) (λ e. length-row-from l r _)
 
 pub length-around : (l : List ℕ) (r : ℕ) → length (aroundCorrupted l r) ≡ length l
 unfolding aroundCorrupted spread beforeCorrupted
 length-around l r =
-    either-length (ltb r 4 || ltb 18 r) l _ _ refl (simp (length-row-copied, length-set))
+    by-test (AsLong l) (ltb r 4 || ltb 18 r) (λ e. refl) (λ e. simp (length-row-copied, length-set))
 
 pub length-read-write : (l : List ℕ) (r : ℕ) → length (readWriteCorrupted l r) ≡ length l
 length-read-write l r = length-read (aroundCorrupted l r) r ∙ length-around l r

@@ -3,10 +3,7 @@ use Prim.Native.Nat.{ℕ, _+_, _-_, _*_, _/_, _%_}
 use mathlib.Core.List.{List}
 use lib.ListN.{getD, set}
 
--- how many bytes and rows OAM has
-abbrev pub oamBytes : ℕ
-oamBytes = 160
-
+-- how many rows OAM has
 abbrev pub oamRows : ℕ
 oamRows = 20
 

@@ -2,8 +2,11 @@
 ghost use mathlib.Core.Path.{_≡_};
 ghost use Prim.Native.Nat.{_+_, _*_, _<_, _≤_};
 ghost use lib.ListN.{length};
-ghost use Rattle.oam_bug.specs.Words.{oamBytes, oamRows, place, wordOf, withWord, withRow, rowFrom, rowCopied};
-ghost use Rattle.oam_bug.specs.Corruption.{rowAt, writeWord, readWord, readWriteWord, beforeCorrupted, spread, aroundCorrupted, writeCorrupted, readCorrupted, readWriteCorrupted};
+ghost use Rattle.hardware.specs.Tables.{oamBytes};
+ghost use Rattle.oam_bug.specs.Words.{oamRows, place, wordOf, withWord, withRow, rowFrom, rowCopied};
+ghost use Rattle.oam_bug.specs.Corruption.{rowAt, writeWord, readWord, readWriteWord};
+ghost use Rattle.oam_bug.specs.Corruption.{beforeCorrupted, spread, aroundCorrupted};
+ghost use Rattle.oam_bug.specs.Corruption.{writeCorrupted, readCorrupted, readWriteCorrupted};
 
 // The row that an access at a cycle of the line corrupts.
 pub fn corrupted_row(mode: u8, cycle: u16) -> u8

@@ -1,3 +1,5 @@
 -- The laws of `registers` that belong to no one function.
-pub mod Table
-pub mod Wrote
+-- what a write keeps of VBK and of STAT
+pub mod Kept
+-- a register write and the colour flag keep a state in order; a write keeps the mode
+pub mod Fine

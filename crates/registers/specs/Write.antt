@@ -2,14 +2,14 @@
 use Prim.Native.Nat.{ℕ, _+_, _%_}
 use mathlib.Core.Bool.{Bool, true, not, cond, _&&_}
 use mathlib.Core.Path.{_≡_}
-use mathlib.Core.List.{List}
 use lib.Bits.{bitAnd}
 use lib.Dec.{eqb, leb}
-use lib.ListN.{length, replicate}
 use Rattle.wrap.specs.Wrap.{bitAt}
 use Rattle.colors.specs.Palettes.{indexWritten, dataWritten, indexRead, dataRead}
 use Rattle.colors.specs.declared.PaletteSet.{PaletteSet}
-use Rattle.state.specs.With.{withMode, withStat, withLy}
+use Rattle.lcd.specs.Pictures.{Pictures, filledWith}
+use Rattle.state.specs.With.{withRegisters, withPalettes, withBeam, withPlace, withCount, withTurned}
+use Rattle.state.specs.With.{withMode, withStat, withLy, withCgb}
 use Rattle.state.specs.declared.Registers.{Registers}
 use Rattle.state.specs.declared.Palettes.{Palettes}
 use Rattle.state.specs.declared.Beam.{Beam}
@@ -37,7 +37,7 @@ registersWritten r address v =
       wx = cond (eqb address 0xFF4B) v (r .wx);
       vbk = cond (eqb address 0xFF4F) v (r .vbk);
       coord = cond (eqb address 0xFF6C) (eqb v 1) (r .coord);
-      colour = r .colour;
+      cgb = r .cgb;
     }
 
 -- a palette set behind an index port and the data port after it
@@ -59,30 +59,28 @@ blankedRegisters r = withLy (withStat r (withMode (r .stat) 0)) 0
 
 -- line 0, cycle 4, just turned on, no place stored; LCD x stays
 abbrev pub blankedBeam : Beam → Beam
-blankedBeam b =
-    record { line = 0; cycle = 4; x = b .x; shown = b .shown; count = 0; end = b .end; level = b .level; on = true }
+blankedBeam b = withTurned (withCount (withPlace b 0 4) 0) true
 
--- the state after a write of kept bits v
+abbrev pub blankedState : State → State
+blankedState s = withBeam (withRegisters s (blankedRegisters (s .regs))) (blankedBeam (s .beam))
+
+-- the state with kept bits v in its registers and palettes
+abbrev pub valueWritten : State → ℕ → ℕ → State
+valueWritten s address v =
+    withPalettes (withRegisters s (registersWritten (s .regs) address v)) (palettesWritten (s .palettes) address v)
+
+-- the state after a write of kept bits v, and both pictures after it: 255 at a blanking
 unfoldable pub stateWritten : State → ℕ → ℕ → State
 stateWritten s address v =
-    record {
-      machine = s .machine;
-      regs = cond (blanks (s .regs) address v) (blankedRegisters (registersWritten (s .regs) address v)) (registersWritten (s .regs) address v);
-      palettes = palettesWritten (s .palettes) address v;
-      selection = s .selection;
-      pipe = s .pipe;
-      beam = cond (blanks (s .regs) address v) (blankedBeam (s .beam)) (s .beam);
-    }
+    cond (blanks (s .regs) address v) (blankedState (valueWritten s address v)) (valueWritten s address v)
 
--- either picture after it: 255 at a blanking
-abbrev pub pictureWritten : State → ℕ → ℕ → List ℕ → List ℕ
-pictureWritten s address v picture = cond (blanks (s .regs) address v) (replicate (length picture) 255) picture
+abbrev pub picturesWritten : State → ℕ → ℕ → Pictures → Pictures
+picturesWritten s address v p = cond (blanks (s .regs) address v) (filledWith 255 p) p
 
--- what a register write leaves: the state, and both pictures
-pub record RegisterWrite (s : State) (a b : List ℕ) (address value : ℕ) (n : State) (a′ b′ : List ℕ) : Type 0 where
+-- what a register write leaves
+pub record Written (s : State) (p : Pictures) (address value : ℕ) (n : State) (p′ : Pictures) : Type 0 where
   pub state : n ≡ stateWritten s address (kept address value)
-  pub pictureA : a′ ≡ pictureWritten s address (kept address value) a
-  pub pictureB : b′ ≡ pictureWritten s address (kept address value) b
+  pub pictures : p′ ≡ picturesWritten s address (kept address value) p
 
 -- the registers that can be read, and what each reads as
 abbrev pub readable : ℕ → Bool
@@ -95,28 +93,4 @@ registerRead p address =
 
 -- the colour flag holds only if the device is not DMG
 abbrev pub colourSet : State → Bool → State
-colourSet s flag =
-    record {
-      machine = s .machine;
-      regs =
-          record {
-            lcdc = s .regs .lcdc;
-            stat = s .regs .stat;
-            scy = s .regs .scy;
-            scx = s .regs .scx;
-            ly = s .regs .ly;
-            lyc = s .regs .lyc;
-            bgp = s .regs .bgp;
-            obp0 = s .regs .obp0;
-            obp1 = s .regs .obp1;
-            wy = s .regs .wy;
-            wx = s .regs .wx;
-            vbk = s .regs .vbk;
-            coord = s .regs .coord;
-            colour = not (s .machine .dmg) && flag;
-          };
-      palettes = s .palettes;
-      selection = s .selection;
-      pipe = s .pipe;
-      beam = s .beam;
-    }
+colourSet s flag = withRegisters s (withCgb (s .regs) (not (s .machine .dmg) && flag))

@@ -2,8 +2,12 @@
 ghost use mathlib.Core.Path.{_≡_};
 ghost use mathlib.Core.Bool.{cond, true};
 ghost use Prim.Native.Nat.{_<_, _≤_, _+_, _%_};
+ghost use Rattle.lcd.specs.Pictures.{pictures};
+ghost use Rattle.order.specs.Fine.{SetFine, PalettesFine};
 ghost use Rattle.registers.specs.Registers.{keptBits};
-ghost use Rattle.registers.specs.Write.{registersWritten, portWritten, palettesWritten, blanks, blankedRegisters, blankedBeam, stateWritten, RegisterWrite, readable, registerRead, colourSet};
+ghost use Rattle.registers.specs.Write.{registersWritten, portWritten, palettesWritten, stateWritten, Written};
+ghost use Rattle.registers.specs.Write.{blanks, blankedRegisters, blankedBeam, blankedState};
+ghost use Rattle.registers.specs.Write.{readable, registerRead, colourSet};
 use colors::PaletteSet;
 use state::Beam;
 use state::Palettes;
@@ -11,76 +15,25 @@ use state::Registers;
 use state::State;
 
 // A writable register: its address and the bits of a write that are kept.
-pub struct Writable {
-    pub address: u16,
-    pub kept: u8,
-}
+pub struct Writable(pub u16, pub u8);
 
 const WRITABLE: [Writable; 16] = [
-    Writable {
-        address: 0xFF40,
-        kept: 0xFF,
-    },
-    Writable {
-        address: 0xFF41,
-        kept: 0x78,
-    },
-    Writable {
-        address: 0xFF42,
-        kept: 0xFF,
-    },
-    Writable {
-        address: 0xFF43,
-        kept: 0xFF,
-    },
-    Writable {
-        address: 0xFF45,
-        kept: 0xFF,
-    },
-    Writable {
-        address: 0xFF47,
-        kept: 0xFF,
-    },
-    Writable {
-        address: 0xFF48,
-        kept: 0xFF,
-    },
-    Writable {
-        address: 0xFF49,
-        kept: 0xFF,
-    },
-    Writable {
-        address: 0xFF4A,
-        kept: 0xFF,
-    },
-    Writable {
-        address: 0xFF4B,
-        kept: 0xFF,
-    },
-    Writable {
-        address: 0xFF4F,
-        kept: 0x01,
-    },
-    Writable {
-        address: 0xFF68,
-        kept: 0xBF,
-    },
-    Writable {
-        address: 0xFF69,
-        kept: 0xFF,
-    },
-    Writable {
-        address: 0xFF6A,
-        kept: 0xBF,
-    },
-    Writable {
-        address: 0xFF6B,
-        kept: 0xFF,
-    },
-    Writable {
-        address: 0xFF6C,
-        kept: 0x01,
-    },
+    Writable(0xFF40, 0xFF), // LCDC
+    Writable(0xFF41, 0x78), // STAT
+    Writable(0xFF42, 0xFF), // SCY
+    Writable(0xFF43, 0xFF), // SCX
+    Writable(0xFF45, 0xFF), // LYC
+    Writable(0xFF47, 0xFF), // BGP
+    Writable(0xFF48, 0xFF), // OBP0
+    Writable(0xFF49, 0xFF), // OBP1
+    Writable(0xFF4A, 0xFF), // WY
+    Writable(0xFF4B, 0xFF), // WX
+    Writable(0xFF4F, 0x01), // VBK
+    Writable(0xFF68, 0xBF), // BCPS
+    Writable(0xFF69, 0xFF), // BCPD
+    Writable(0xFF6A, 0xBF), // OCPS
+    Writable(0xFF6B, 0xFF), // OCPD
+    Writable(0xFF6C, 0x01), // OPRI
 ];
 
 // The bits that a write to an address keeps; 0 where the address is not listed.
@@ -90,8 +43,8 @@ pub fn kept_bits(address: u16) -> u8
     let mut k = 0;
     while k < 16 {
         let w = WRITABLE[k];
-        if w.address == address {
-            return w.kept;
+        if w.0 == address {
+            return w.1;
         }
         k += 1;
     }
@@ -99,13 +52,13 @@ pub fn kept_bits(address: u16) -> u8
 }
 
 // The new value at its own address, else the old one.
-fn chosen(here: bool, new: u8, old: u8) -> u8
+fn replaced(here: bool, new: u8, old: u8) -> u8
     ensures { λ r. ⌜ r ≡ cond here new old ⌝ }
 {
     if here { new } else { old }
 }
 
-fn chosen_flag(here: bool, new: bool, old: bool) -> bool
+fn replaced_flag(here: bool, new: bool, old: bool) -> bool
     ensures { λ r. ⌜ r ≡ cond here new old ⌝ }
 {
     if here { new } else { old }
@@ -125,26 +78,26 @@ pub fn write_registers(r: Registers, address: u16, v: u8) -> Registers
     ensures { λ n. ⌜ n ≡ registersWritten r address v ⌝ }
 {
     Registers {
-        lcdc: chosen(address == 0xFF40, v, r.lcdc),
+        lcdc: replaced(address == 0xFF40, v, r.lcdc),
         stat: stat_after(address == 0xFF41, v, r.stat),
-        scy: chosen(address == 0xFF42, v, r.scy),
-        scx: chosen(address == 0xFF43, v, r.scx),
+        scy: replaced(address == 0xFF42, v, r.scy),
+        scx: replaced(address == 0xFF43, v, r.scx),
         ly: r.ly,
-        lyc: chosen(address == 0xFF45, v, r.lyc),
-        bgp: chosen(address == 0xFF47, v, r.bgp),
-        obp0: chosen(address == 0xFF48, v, r.obp0),
-        obp1: chosen(address == 0xFF49, v, r.obp1),
-        wy: chosen(address == 0xFF4A, v, r.wy),
-        wx: chosen(address == 0xFF4B, v, r.wx),
-        vbk: chosen(address == 0xFF4F, v, r.vbk),
-        coord: chosen_flag(address == 0xFF6C, v == 1, r.coord),
-        colour: r.colour,
+        lyc: replaced(address == 0xFF45, v, r.lyc),
+        bgp: replaced(address == 0xFF47, v, r.bgp),
+        obp0: replaced(address == 0xFF48, v, r.obp0),
+        obp1: replaced(address == 0xFF49, v, r.obp1),
+        wy: replaced(address == 0xFF4A, v, r.wy),
+        wx: replaced(address == 0xFF4B, v, r.wx),
+        vbk: replaced(address == 0xFF4F, v, r.vbk),
+        coord: replaced_flag(address == 0xFF6C, v == 1, r.coord),
+        cgb: r.cgb,
     }
 }
 
 // A palette set after a write to its index port or to the data port after it.
 pub fn write_port(p: PaletteSet, port: u16, address: u16, v: u8) -> PaletteSet
-    requires { ⌜ (p .index < 64) × (port < 65535) ⌝ }
+    requires { ⌜ SetFine p × (port < 65535) ⌝ }
     ensures { λ r. ⌜ r ≡ portWritten p port address v ⌝ }
 {
     if address == port {
@@ -157,7 +110,7 @@ pub fn write_port(p: PaletteSet, port: u16, address: u16, v: u8) -> PaletteSet
 }
 
 pub fn write_palettes(p: Palettes, address: u16, v: u8) -> Palettes
-    requires { ⌜ (p .bg .index < 64) × (p .obj .index < 64) ⌝ }
+    requires { ⌜ PalettesFine p ⌝ }
     ensures { λ r. ⌜ r ≡ palettesWritten p address v ⌝ }
 {
     let bg = write_port(p.bg, 0xFF68, address, v);
@@ -194,42 +147,52 @@ fn blank_beam(b: Beam) -> Beam
     n.line = 0;
     n.cycle = 4;
     n.count = 0;
-    n.on = true;
+    n.turned = true;
+    n
+}
+
+// The state with the display switched off.
+fn blank_state(s: State) -> State
+    ensures { λ n. ⌜ n ≡ blankedState s ⌝ }
+{
+    let regs = blank_registers(s.regs);
+    let beam = blank_beam(s.beam);
+    let mut n = s;
+    n.regs = regs;
+    n.beam = beam;
     n
 }
 
 // The state after a write of kept bits.
 pub fn write_state(s: State, address: u16, v: u8) -> State
-    requires { ⌜ (s .palettes .bg .index < 64) × (s .palettes .obj .index < 64) × (address ≡ 0xFF41 → v ≤ 0x78) ⌝ }
+    requires { ⌜ PalettesFine (s .palettes) × (address ≡ 0xFF41 → v ≤ 0x78) ⌝ }
     ensures { λ n. ⌜ n ≡ stateWritten s address v ⌝ }
 {
     let regs = write_registers(s.regs, address, v);
     let palettes = write_palettes(s.palettes, address, v);
     let mut n = s;
+    n.regs = regs;
     n.palettes = palettes;
     if does_blank(s.regs, address, v) {
-        let dark = blank_registers(regs);
-        let beam = blank_beam(s.beam);
-        n.regs = dark;
-        n.beam = beam;
-        return n;
+        return blank_state(n);
     }
-    n.regs = regs;
     n
 }
 
 // A write to a register: the state after it, and both pictures, white at a blanking.
 pub fn write_register(s: State, a: &mut [u8], b: &mut [u8], address: u16, value: u8) -> State
-    requires { ⌜ (s .palettes .bg .index < 64) × (s .palettes .obj .index < 64) ⌝ }
-    ensures { λ n. ⌜ RegisterWrite s (now (a .entry)) (now (b .entry)) address value n (now (a .exit)) (now (b .exit)) ⌝ }
+    requires { ⌜ PalettesFine (s .palettes) ⌝ }
+    ensures { λ n. ⌜ Written s (pictures (now (a .entry)) (now (b .entry))) address value n
+        (pictures (now (a .exit)) (now (b .exit))) ⌝ }
 {
     let v = value & kept_bits(address);
+    let n = write_state(s, address, v);
     if does_blank(s.regs, address, v) {
         lcd::fill(a, 255);
         lcd::fill(b, 255);
-        return write_state(s, address, v);
+        return n;
     }
-    write_state(s, address, v)
+    n
 }
 
 // Whether a register can be read: FF68 to FF6B.
@@ -244,7 +207,7 @@ pub fn is_readable(address: u16) -> bool
 
 // The value of a readable register.
 pub fn read_register(p: Palettes, address: u16) -> u8
-    requires { ⌜ (p .bg .index < 64) × (p .obj .index < 64) ⌝ }
+    requires { ⌜ PalettesFine p ⌝ }
     ensures { λ r. ⌜ r ≡ registerRead p address ⌝ }
 {
     let bg = p.bg;
@@ -267,9 +230,9 @@ pub fn set_colour(s: State, flag: bool) -> State
 {
     let mut n = s;
     if s.machine.dmg {
-        n.regs.colour = false;
+        n.regs.cgb = false;
     } else {
-        n.regs.colour = flag;
+        n.regs.cgb = flag;
     }
     n
 }

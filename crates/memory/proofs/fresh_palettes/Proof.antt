@@ -20,8 +20,10 @@ set-palette-requires-2 c κs = search needs
 
 returns-2 : tie.Need-returns-2
 returns-2 c =
-    rw
-    (c .before .before .before .if1 .left, c .set-palette2 .ensures, c .before .set-palette .ensures, c .before .before .grey-palette .ensures, c .before .before .before .before .fresh .ensures)
+    let grey = c .before .before in
+    let plain = grey .before in
+    let fresh = plain .before .fresh .ensures in
+    rw (plain .if1 .left, c .set-palette2 .ensures, c .before .set-palette .ensures, grey .grey-palette .ensures, fresh)
 
 pub fresh-palettes-spec : {M : Type 1} → statement M
 fresh-palettes-spec =

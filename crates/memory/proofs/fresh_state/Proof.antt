@@ -25,7 +25,11 @@ fresh-beam-requires c κs = search needs
 returns : tie.Need-returns
 unfolding freshState
 returns c =
-    rw (c .fresh-beam .ensures, c .before .fresh-pipe .ensures, c .before .before .blank .ensures, c .before .before .before .fresh-palettes .ensures, c .before .before .before .before .fresh-registers .ensures, c .before .before .before .before .before .in-colour .ensures)
+    let slots = c .before .before in
+    let regs = slots .before .before in
+    let palettes = slots .before .fresh-palettes .ensures in
+    let colour = regs .before .in-colour .ensures in
+    rw (c .fresh-beam .ensures, c .before .fresh-pipe .ensures, slots .blank .ensures, palettes, regs .fresh-registers .ensures, colour)
 
 pub fresh-state-spec : {M : Type 1} → statement M
 fresh-state-spec =

@@ -1,4 +1,4 @@
--- `memory::start` meets its contract.
+-- `memory::start` meets its contract. v, o, a and b: where VRAM, OAM and the pictures were filled.
 use borrow.Author.Needs.{needs}
 use Rattle.memory.proofs.start.Statement.{statement}
 use Rattle.memory.proofs.start.Tie as tie
@@ -19,7 +19,16 @@ fresh-state-requires : tie.Need-fresh-state-requires
 fresh-state-requires c κs = search needs
 
 same-length : tie.Need-same-length
-same-length c = c .before .before .before .before .before .before .before .before .before .before .before .before .before .before .before .fill .kept .0
+same-length c =
+    let shown = c .before .before in
+    let b = shown .before in
+    let drawn = b .before .before in
+    let a = drawn .before .before in
+    let emptied = a .before .before in
+    let o = emptied .before .before in
+    let cleared = o .before .before in
+    let v = cleared .before .before in
+    v .fill .kept .0
 
 same-length-2 : tie.Need-same-length-2
 same-length-2 c = search needs
@@ -32,12 +41,18 @@ same-length-4 c = search needs
 
 returns : tie.Need-returns
 returns c =
+    let shown = c .before .before in
+    let b = shown .before in
+    let drawn = b .before .before in
+    let a = drawn .before .before in
+    let emptied = a .before .before in
+    let o = emptied .before .before in
+    let cleared = o .before .before in
+    let v = cleared .before .before in
     record {
       state = c .fresh-state .ensures;
-      cleared = c .before .before .before .before .before .before .before .before .before .before .before .before .before .before .before .fill .ensures;
-      emptied = c .before .before .before .before .before .before .before .before .before .before .before .fill2 .ensures;
-      pictureA = c .before .before .before .before .before .before .before .fill3 .ensures;
-      pictureB = c .before .before .before .fill4 .ensures;
+      tables = λ i. record { vram = v .fill .ensures i; oam = o .fill2 .ensures i };
+      pictures = λ i. record { a = a .fill3 .ensures i; b = b .fill4 .ensures i };
     }
 
 pub start-spec : {M : Type 1} → statement M

@@ -14,7 +14,8 @@ returns c = simp (lt-ltb (c .before .before .args .row) 4 (omega arith))
 returns-2 : tie.Need-returns-2
 unfolding aroundCorrupted
 returns-2 c =
-    let row : ℕ = c .before .before .before .args .row in
+    let lent = c .before .before in
+    let row : ℕ = lent .before .args .row in
     simp (le-ltb row 4 (omega arith), lt-ltb 18 row (omega arith))
 
 corrupt-before-requires : tie.Need-corrupt-before-requires
@@ -29,7 +30,12 @@ same-length c = search needs
 returns-3 : tie.Need-returns-3
 unfolding aroundCorrupted
 returns-3 c =
-    let row : ℕ = c .before .before .before .before .before .before .before .before .before .before .before .args .row in
+    let spread = c .before .before in
+    let lent = spread .before .before in
+    let before = lent .before .before in
+    let asked = before .before .before in
+    let some = asked .before .before in
+    let row : ℕ = some .before .args .row in
     rw (le-ltb row 4 (omega arith), le-ltb 18 row (omega arith)) cc
 
 pub corrupt-around-spec : {M : Type 1} → statement M

@@ -35,7 +35,13 @@ same-length c = search needs
 
 returns-2 : tie.Need-returns-2
 unfolding readCorrupted
-returns-2 c = rw (ne-eqb _ _ (c .before .before .before .before .before .before .before .before .before .before .before .if1 .left)) cc
+returns-2 c =
+    let from = c .before .before in
+    let word = from .before .before in
+    let third = word .before .before in
+    let second = third .before .before in
+    let first = second .before .before in
+    rw (ne-eqb _ _ (first .before .if1 .left)) cc
 
 pub corrupt-read-spec : {M : Type 1} → statement M
 corrupt-read-spec =

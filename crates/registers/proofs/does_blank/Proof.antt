@@ -19,8 +19,9 @@ bit-requires-2 c κs = search needs
 
 returns-3 : tie.Need-returns-3
 returns-3 c =
-    let set = sym (c .before .before .bit .ensures) ∙ not-false _ (c .before .if2 .left) in
-    rw (eq-eqb _ _ (c .before .before .before .if1 .left), set, c .bit2 .ensures)
+    let asked = c .before .before in
+    let set = sym (asked .bit .ensures) ∙ not-false _ (c .before .if2 .left) in
+    rw (eq-eqb _ _ (asked .before .if1 .left), set, c .bit2 .ensures)
 
 pub does-blank-spec : {M : Type 1} → statement M
 does-blank-spec = tie.close (tie.spec returns bit-requires returns-2 bit-requires-2 returns-3)

@@ -25,8 +25,8 @@ read-index-requires-2 c κs = search needs
 returns-3 : tie.Need-returns-3
 unfolding registerRead
 returns-3 c =
-    rw
-    (c .read-index2 .ensures, ne-eqb _ _ (c .before .before .before .if1 .left), ne-eqb _ _ (c .before .before .if2 .left), eq-eqb _ _ (c .before .if3 .taken))
+    let two = c .before .before in
+    rw (c .read-index2 .ensures, ne-eqb _ _ (two .before .if1 .left), ne-eqb _ _ (two .if2 .left), eq-eqb _ _ (c .before .if3 .taken))
 
 read-color-data-requires-2 : tie.Need-read-color-data-requires-2
 read-color-data-requires-2 c κs = search needs
@@ -34,8 +34,8 @@ read-color-data-requires-2 c κs = search needs
 returns-4 : tie.Need-returns-4
 unfolding registerRead
 returns-4 c =
-    rw
-    (c .read-color-data2 .ensures, ne-eqb _ _ (c .before .before .before .if1 .left), ne-eqb _ _ (c .before .before .if2 .left), ne-eqb _ _ (c .before .if3 .left))
+    let two = c .before .before in
+    rw (c .read-color-data2 .ensures, ne-eqb _ _ (two .before .if1 .left), ne-eqb _ _ (two .if2 .left), ne-eqb _ _ (c .before .if3 .left))
 
 pub read-register-spec : {M : Type 1} → statement M
 read-register-spec =

@@ -5,62 +5,67 @@ use borrow.Author.Needs.{needs}
 use Rattle.registers.proofs.write_registers.Statement.{statement}
 use Rattle.registers.proofs.write_registers.Tie as tie
 
-chosen-requires : tie.Need-chosen-requires
-chosen-requires c κs = search needs
+replaced-requires : tie.Need-replaced-requires
+replaced-requires c κs = search needs
 
 stat-after-requires : tie.Need-stat-after-requires
 stat-after-requires c κs = λ e. c .before .pre (eqb-true _ _ e)
 
-chosen-requires-2 : tie.Need-chosen-requires-2
-chosen-requires-2 c κs = search needs
+replaced-requires-2 : tie.Need-replaced-requires-2
+replaced-requires-2 c κs = search needs
 
-chosen-requires-3 : tie.Need-chosen-requires-3
-chosen-requires-3 c κs = search needs
+replaced-requires-3 : tie.Need-replaced-requires-3
+replaced-requires-3 c κs = search needs
 
-chosen-requires-4 : tie.Need-chosen-requires-4
-chosen-requires-4 c κs = search needs
+replaced-requires-4 : tie.Need-replaced-requires-4
+replaced-requires-4 c κs = search needs
 
-chosen-requires-5 : tie.Need-chosen-requires-5
-chosen-requires-5 c κs = search needs
+replaced-requires-5 : tie.Need-replaced-requires-5
+replaced-requires-5 c κs = search needs
 
-chosen-requires-6 : tie.Need-chosen-requires-6
-chosen-requires-6 c κs = search needs
+replaced-requires-6 : tie.Need-replaced-requires-6
+replaced-requires-6 c κs = search needs
 
-chosen-requires-7 : tie.Need-chosen-requires-7
-chosen-requires-7 c κs = search needs
+replaced-requires-7 : tie.Need-replaced-requires-7
+replaced-requires-7 c κs = search needs
 
-chosen-requires-8 : tie.Need-chosen-requires-8
-chosen-requires-8 c κs = search needs
+replaced-requires-8 : tie.Need-replaced-requires-8
+replaced-requires-8 c κs = search needs
 
-chosen-requires-9 : tie.Need-chosen-requires-9
-chosen-requires-9 c κs = search needs
+replaced-requires-9 : tie.Need-replaced-requires-9
+replaced-requires-9 c κs = search needs
 
-chosen-requires-10 : tie.Need-chosen-requires-10
-chosen-requires-10 c κs = search needs
+replaced-requires-10 : tie.Need-replaced-requires-10
+replaced-requires-10 c κs = search needs
 
-chosen-flag-requires : tie.Need-chosen-flag-requires
-chosen-flag-requires c κs = search needs
+replaced-flag-requires : tie.Need-replaced-flag-requires
+replaced-flag-requires c κs = search needs
 
 returns : tie.Need-returns
 unfolding registersWritten
 returns c =
+    let nine = c .before .before in
+    let seven = nine .before .before in
+    let five = seven .before .before in
+    let three = five .before .before in
+    let stat = three .before .before in
     rw
-    (c .chosen-flag .ensures, c .before .chosen10 .ensures, c .before .before .chosen9 .ensures, c .before .before .before .chosen8 .ensures, c .before .before .before .before .chosen7 .ensures, c .before .before .before .before .before .chosen6 .ensures, c .before .before .before .before .before .before .chosen5 .ensures, c .before .before .before .before .before .before .before .chosen4 .ensures, c .before .before .before .before .before .before .before .before .chosen3 .ensures, c .before .before .before .before .before .before .before .before .before .chosen2 .ensures, c .before .before .before .before .before .before .before .before .before .before .stat-after .ensures, c .before .before .before .before .before .before .before .before .before .before .before .chosen .ensures)
+    (c .replaced-flag .ensures, c .before .replaced10 .ensures, nine .replaced9 .ensures, nine .before .replaced8 .ensures, seven .replaced7 .ensures, seven .before .replaced6 .ensures, five .replaced5 .ensures, five .before .replaced4 .ensures, three .replaced3 .ensures, three .before .replaced2 .ensures, stat .stat-after .ensures, stat .before .replaced .ensures)
 
 pub write-registers-spec : {M : Type 1} → statement M
 write-registers-spec =
     tie.close
     (tie.spec
-    chosen-requires
+    replaced-requires
     stat-after-requires
-    chosen-requires-2
-    chosen-requires-3
-    chosen-requires-4
-    chosen-requires-5
-    chosen-requires-6
-    chosen-requires-7
-    chosen-requires-8
-    chosen-requires-9
-    chosen-requires-10
-    chosen-flag-requires
+    replaced-requires-2
+    replaced-requires-3
+    replaced-requires-4
+    replaced-requires-5
+    replaced-requires-6
+    replaced-requires-7
+    replaced-requires-8
+    replaced-requires-9
+    replaced-requires-10
+    replaced-flag-requires
     returns)

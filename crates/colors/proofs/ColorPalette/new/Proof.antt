@@ -29,7 +29,8 @@ to-raw-requires-4 c κs = search needs
 
 returns : tie.Need-returns
 returns c =
-    rw (c .to-raw4 .ensures, c .before .to-raw3 .ensures, c .before .before .to-raw2 .ensures, c .before .before .before .to-raw .ensures)
+    let two = c .before .before in
+    rw (c .to-raw4 .ensures, c .before .to-raw3 .ensures, two .to-raw2 .ensures, two .before .to-raw .ensures)
 
 pub new-spec : {M : Type 1} → statement M
 new-spec =

@@ -32,7 +32,8 @@ word-at-requires-4 c κs = search needs
 
 returns : tie.Need-returns
 returns c =
-    rw (c .word-at4 .ensures, c .before .word-at3 .ensures, c .before .before .word-at2 .ensures, c .before .before .before .word-at .ensures)
+    let two = c .before .before in
+    rw (c .word-at4 .ensures, c .before .word-at3 .ensures, two .word-at2 .ensures, two .before .word-at .ensures)
 
 pub get-palette-spec : {M : Type 1} → statement M
 get-palette-spec =

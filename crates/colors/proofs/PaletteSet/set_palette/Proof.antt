@@ -33,7 +33,8 @@ with-word-requires-4 c κs = search needs
 
 returns : tie.Need-returns
 returns c =
-    simp (c .with-word4 .ensures, c .before .with-word3 .ensures, c .before .before .with-word2 .ensures, c .before .before .before .with-word .ensures, towards-suc)
+    let two = c .before .before in
+    simp (c .with-word4 .ensures, c .before .with-word3 .ensures, two .with-word2 .ensures, two .before .with-word .ensures, towards-suc)
 
 pub set-palette-spec : {M : Type 1} → statement M
 set-palette-spec =
