@@ -1,73 +1,48 @@
 -- Frames exist: steps of 4 move the beam by 4 until the swap.
 use mathlib.Core.Path.{_≡_, refl, sym, ap, ap₂, _∙_}
-use mathlib.Core.Bool.{Bool, true, false, true≢false, not, cond, _&&_, _||_}
-use mathlib.Core.List.{List, [], _∷_}
-use Prim.Native.Nat.{ℕ, zero, suc, _+_, _*_, _%_, _≤_, _<_}
+use mathlib.Core.Bool.{Bool, true, false, true≢false, not, cond, _&&_}
+use Prim.Native.Nat.{ℕ, zero, suc, _+_, _*_, _%_, _<_}
 use native.Mathlib.Omega.{arith}
-use borrow.Author.Tests.{eqb-true, eqb-false, eq-eqb}
+use borrow.Author.Tests.{eqb-true, eq-eqb}
 use lib.Dec.{eqb}
 use lib.ListN.{replicate}
+use Rattle.refusals.specs.Ladder.{lowest}
+use Rattle.hardware.specs.declared.Machine.{Machine}
 use Rattle.hardware.specs.Screen.{lineCycles, frameLines}
 use Rattle.wrap.specs.Wrap.{bitAt}
 use Rattle.state.specs.declared.Beam.{Beam}
 use Rattle.state.specs.declared.State.{State}
-use Rattle.draw.proofs.Order.{Fine}
+use Rattle.order.specs.Fine.{Fine}
 use Rattle.memory.specs.Fresh.{freshState}
-use Rattle.order.specs.Order.{inOrder}
-use Rattle.beam.specs.Advance.{ends, swaps, advanced, onward, nextLine, nextFrame, atLine, inLine}
+use Rattle.order.proofs.Clauses.{ordered}
+use Rattle.beam.specs.Advance.{ends, swaps, advanced}
+use Rattle.beam.proofs.Ways.{advanced-cases}
 use Rattle.step.specs.Step.{lit, settled, stepped}
 use Rattle.step.proofs.Keeps.{settled-fine, settled-same}
-use Rattle.ppu.specs.Numbers.{paced, allSized, stepNumber}
-use Rattle.ppu.specs.Calls.{done}
-use Rattle.history.specs.Run.{World, Call, step, number, perform, freshWorld, swapped, blanked}
+use Rattle.history.specs.Run.{World, step, number, freshWorld, swapped, blanked}
 use Rattle.history.specs.Stored.{Trace, go, trace, begun}
-use Rattle.history.specs.Demand.{ran, AtOrigin, staysOn, staysHidden, Reaches, Reached, Begins, Begun}
-use Rattle.history.proofs.Refused.{not-1, not-2}
+use Rattle.history.specs.Demand.{AtOrigin, staysOn, staysHidden, Reaches, Reached, Begins, Begun}
+use Rattle.history.proofs.Kept.{lent-fits}
 use Rattle.history.proofs.Steps.{settled-swaps}
 use Rattle.history.proofs.Invariant.{Inv, fullAfter, begun-inv, go-inv}
-use Rattle.history.proofs.Demand.{ran-inv, swaps-now}
+use Rattle.history.proofs.Demand.{of-runs, swaps-now}
 
 -- where the beam stands, in cycles from line 0, cycle 0
 abbrev position : State → ℕ
 position s = 456 * s .beam .line + s .beam .cycle
 
 -- an advance by 4 that does not swap
-advanced-position : (s : State) → Fine s → 456 * s .beam .line + s .beam .cycle + 4 < 70224
+advanced-position : (s : State) → Fine s → position s + 4 < 70224
     → (position (advanced 4 s) ≡ position s + 4) × (advanced 4 s .regs .lcdc ≡ s .regs .lcdc)
-unfolding advanced
-advanced-position s f h = by (ends 4 (s .beam)) refl (eqb (s .beam .line + 1) frameLines) refl
-  where
-    by : (p : Bool) → ends 4 (s .beam) ≡ p → (q : Bool) → eqb (s .beam .line + 1) frameLines ≡ q
-        → (position (cond p (cond q (atLine s (nextFrame (s .beam))) (atLine s (nextLine (s .beam)))) (inLine s (onward 4 (s .beam)))) ≡ position s + 4)
-        × (cond p (cond q (atLine s (nextFrame (s .beam))) (atLine s (nextLine (s .beam)))) (inLine s (onward 4 (s .beam))) .regs .lcdc ≡ s .regs .lcdc)
-    by true e true g =
-        let a = eqb-true (s .beam .cycle + 4) lineCycles e in
-        let b = eqb-true (s .beam .line + 1) frameLines g in
-        absurd (omega arith)
-    by true e false g = let a = eqb-true (s .beam .cycle + 4) lineCycles e in (omega arith, refl)
-    by false e q g = (omega arith, refl)
-
--- what a step is given, by the three tests
-abbrev outcome : Bool → Bool → Bool → ℕ
-outcome sized order pace = cond sized (cond order (cond pace 0 3) 2) 1
+advanced-position s f h =
+    advanced-cases 4 s (λ (b : Bool) (u : State). (position u ≡ position s + 4) × (u .regs .lcdc ≡ s .regs .lcdc))
+    (λ e. (omega arith, refl)) (λ e g. (omega arith, refl)) (λ e g. absurd (omega arith))
 
 -- a step of 4 at a multiple of 4 is accepted
 accepts : {full : Bool} {t : Trace} → Inv full t → t .world .state .beam .cycle % 4 ≡ 0 → number (step 4) (t .world) ≡ 0
-unfolding stepNumber
+unfolding lowest
 accepts {t = t} i quarter =
-    by (allSized (w .vram) (w .oam) (w .a) (w .b)) (inOrder (w .state)) (not-1 (step 4) w (i .sizes)) (not-2 (step 4) w (i .fine))
-  where
-    w : World
-    w = t .world
-
-    paced-4 : paced (w .state .beam .cycle) 4 ≡ true
-    paced-4 = eq-eqb (w .state .beam .cycle % 4) 0 quarter
-
-    by : (p q : Bool) → (outcome p q (paced (w .state .beam .cycle) 4) ≡ 1 → ⊥) → (outcome p q (paced (w .state .beam .cycle) 4) ≡ 2 → ⊥)
-        → outcome p q (paced (w .state .beam .cycle) 4) ≡ 0
-    by true true a b = rw paced-4 refl
-    by true false a b = absurd (b refl)
-    by false q a b = absurd (a refl)
+    rw (lent-fits (t .world) (i .sizes), ordered (i .fine), eq-eqb (t .world .state .beam .cycle % 4) 0 quarter) refl
 
 -- a run that stands at a multiple of 4, on
 record At (p : ℕ) (t : Trace) : Type 0 where
@@ -83,7 +58,7 @@ module _ {p : ℕ} {t : Trace} (k : At p t) (quarter : p % 4 ≡ 0) where
   -- it swaps where the frame ends, and not before
   swaps-at : p ≡ 70220 → swapped (step 4) (t .world) ≡ true
   swaps-at e =
-      let f = k .inv .fine .order in
+      let f = k .inv .fine .beam in
       let line : t .world .state .beam .line ≡ 153 = omega (arith, k .at, f .line, f .cycle) in
       let cycle : t .world .state .beam .cycle ≡ 452 = omega (arith, k .at) in
       rw (accepted-4, k .on, line, cycle) refl
@@ -109,8 +84,9 @@ module _ {p : ℕ} {t : Trace} (k : At p t) (quarter : p % 4 ≡ 0) where
   unfolding stepped
   moves h =
       let w = t .world in
-      let same = settled-same 4 (w .vram) (w .oam) (w .state) in
-      let a = advanced-position (settled 4 (w .vram) (w .oam) (w .state)) (settled-fine 4 (w .vram) (w .oam) (w .state) (k .inv .fine)) (omega (arith, k .at, same .line, same .cycle)) in
+      let same = settled-same 4 (w .tables) (w .state) in
+      let fine = settled-fine 4 (w .tables) (w .state) (k .inv .fine) in
+      let a = advanced-position _ fine (omega (arith, k .at, same .line, same .cycle)) in
       record {
         full = fullAfter (step 4) w (k .full);
         inv = go-inv (step 4) (k .inv);
@@ -139,11 +115,14 @@ many (suc n) {p} {t} k quarter h =
     }
 
 -- 17,556 steps of 4 from line 0, cycle 0
-pub reached : Reached
-reached dmg wanted before o on =
-    let k : At 0 (ran dmg wanted before) = record { full = _; inv = ran-inv dmg wanted before; on = on; at = omega (arith, o .line, o .cycle) } in
+reaches : {full : Bool} {t : Trace} → Inv full t → AtOrigin (t .world) → lit (t .world .state) ≡ true → Reaches t
+reaches {full} {t} i o on =
+    let k : At 0 t = record { full = full; inv = i; on = on; at = omega (arith, o .line, o .cycle) } in
     let m = many 17555 k refl (omega arith) in
     record { on = m .stays; hidden = m .hides; swap = swaps-at (m .then) refl refl }
+
+pub reached : Reached
+reached = of-runs _ (λ full t. reaches)
 
 -- the advance that swaps
 record Swapped (s u : State) : Type 0 where
@@ -152,31 +131,26 @@ record Swapped (s u : State) : Type 0 where
   lcdc : u .regs .lcdc ≡ s .regs .lcdc
 
 advanced-swap : (s : State) → swaps 4 (s .beam) ≡ true → Swapped s (advanced 4 s)
-unfolding advanced
-advanced-swap s = by (ends 4 (s .beam)) (eqb (s .beam .line + 1) frameLines)
-  where
-    by : (p q : Bool) → (p && q) ≡ true
-        → Swapped s (cond p (cond q (atLine s (nextFrame (s .beam))) (atLine s (nextLine (s .beam)))) (inLine s (onward 4 (s .beam))))
-    by true true e = record { line = refl; cycle = refl; lcdc = refl }
-    by true false e = absurd (true≢false (sym e))
-    by false q e = absurd (true≢false (sym e))
+advanced-swap s =
+    advanced-cases 4 s (λ (b : Bool) (u : State). b ≡ true → Swapped s u)
+    (λ e z. absurd (true≢false (sym z))) (λ e g z. absurd (true≢false (sym z))) (λ e g z. record { line = refl; cycle = refl; lcdc = refl })
 
 begins : {t : Trace} → At 70220 t → Begins (go (step 4) t)
 unfolding stepped
 begins {t} k =
     let w = t .world in
-    let same = settled-same 4 (w .vram) (w .oam) (w .state) in
-    let e = settled-swaps 4 (w .vram) (w .oam) (w .state) ∙ swaps-now (k .inv) 4 (swaps-at k refl refl) in
-    let u = advanced-swap (settled 4 (w .vram) (w .oam) (w .state)) e in
+    let same = settled-same 4 (w .tables) (w .state) in
+    let e = settled-swaps 4 (w .tables) (w .state) ∙ swaps-now (k .inv) 4 (swaps-at k refl refl) in
+    let u = advanced-swap (settled 4 (w .tables) (w .state)) e in
     record {
       origin = record { line = rw (accepted-4 k refl, k .on) (u .line); cycle = rw (accepted-4 k refl, k .on) (u .cycle) };
       on = rw (accepted-4 k refl, k .on) (ap (λ (x : ℕ). bitAt x 7) (u .lcdc ∙ same .lcdc) ∙ k .on);
     }
 
-fresh-at : (dmg wanted : Bool) → At 70168 (begun (freshWorld dmg wanted))
+fresh-at : (machine : Machine) → At 70168 (begun (freshWorld machine))
 unfolding freshState
-fresh-at dmg wanted = record { full = false; inv = begun-inv dmg wanted; on = refl; at = refl }
+fresh-at machine = record { full = false; inv = begun-inv machine; on = refl; at = refl }
 
 -- 14 steps of 4 from a start
 pub begun-frame : Begun
-begun-frame dmg wanted = begins (many 13 (fresh-at dmg wanted) refl (omega arith) .then)
+begun-frame machine = begins (many 13 (fresh-at machine) refl (omega arith) .then)

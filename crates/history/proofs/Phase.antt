@@ -1,33 +1,32 @@
 -- Where a run can stand: before the draws of a line, in them, behind them, or below the picture; and that the places stored rise.
-use mathlib.Core.Path.{_≡_, refl, sym, ap, _∙_}
-use mathlib.Core.Bool.{Bool, true, false, true≢false, cond, _&&_, _||_}
+use mathlib.Core.Path.{_≡_, refl, sym, _∙_}
+use mathlib.Core.Bool.{Bool, true, false, true≢false}
 use mathlib.Core.Logic.{_⊎_, inl, inr, ⊎-elim}
-use mathlib.Core.List.{List, [], _∷_, _++_, append-nil}
+use mathlib.Core.List.{List, _++_, append-nil}
 use Prim.Native.Nat.{ℕ, _+_, _*_, _%_, _≤_, _<_}
 use native.Mathlib.Omega.{arith}
 use native.Mathlib.Decide.{decLt}
-use borrow.Author.Tests.{eqb-true}
-use lib.Dec.{eqb}
 use lib.ListN.{length, length-append, length-map}
-use Rattle.fifo.proofs.Every.{first, second}
-use Rattle.hardware.specs.Screen.{width, height, places}
+use Rattle.hardware.specs.Screen.{width, height, places, place}
 use Rattle.state.specs.With.{modeOf}
 use Rattle.state.specs.declared.Pipe.{Pipe}
 use Rattle.state.specs.declared.State.{State}
-use Rattle.draw.proofs.Order.{Fine}
+use Rattle.hardware.specs.Tables.{Tables}
+use Rattle.order.specs.Fine.{Fine}
 use Rattle.burst.specs.Burst.{burst}
 use Rattle.modes.specs.Modes.{entered, searched, rendering}
 use Rattle.burst.proofs.Keep.{burst-same}
 use Rattle.step.specs.Step.{working}
 use Rattle.step.proofs.Keeps.{ready-fine}
 use Rattle.ppu.specs.Numbers.{paced}
-use Rattle.bound.specs.Potential.{left, Paced, Steady}
+use Rattle.bound.specs.Potential.{leftAt, left, Paced, Steady}
 use Rattle.bound.proofs.Potential.{left-any, paced-start, steady-inside, steady-start}
-use Rattle.bound.proofs.Line.{burst-falls, burst-loose, burst-paced, burst-window}
+use Rattle.bound.proofs.Bursts.{burst-falls, burst-loose, burst-paced, burst-window}
 use Rattle.history.specs.Stored.{Stored, storedBy, numbers}
 use Rattle.history.proofs.Rising.{Rising, rising-upper, rising-append}
+use Rattle.ppu.proofs.Pace.{pace-to, pace-small}
 use Rattle.history.proofs.Places.{spotNumber, Came, on, over, Ran, burst-ran, ran-rising, burst-idle}
-use Rattle.history.proofs.Views.{View, Rested, view-scan, view-early, view-render, view-late, view-below}
+use Rattle.history.proofs.Views.{View, view-scan, view-early, view-render, view-late, view-below}
 
 -- places that rise below hi; in a full run since a swap they are all the places below hi
 pub record Up (full : Bool) (hi : ℕ) (l : List ℕ) : Type 0 where
@@ -49,68 +48,61 @@ up-more {l = l} {r} q u =
     }
 
 -- a line is entered with x 0, or in the window, or it is line 0
-pub data Entry (full : Bool) (s : State) : Type 0 where
-  at0 : s .beam .x ≡ 0 → Entry full s
-  inside : s .pipe .window ≡ true → Entry full s
-  first′ : full ≡ false → s .beam .line ≡ 0 → Entry full s
+pub data Entry (full : Bool) (line x : ℕ) (p : Pipe) : Type 0 where
+  at0 : x ≡ 0 → Entry full line x p
+  inside : p .window ≡ true → Entry full line x p
+  first′ : full ≡ false → line ≡ 0 → Entry full line x p
 
--- where a state stands, with the numbers of the places stored: 204 draws behind cycle 80 end at 284
-pub data Phase (full : Bool) (s : State) (l : List ℕ) : Type 0 where
-  before : (modeOf (s .regs .stat) ≡ 3 → ⊥) → s .beam .cycle ≤ 80 → s .beam .line < height → Entry full s → Up full (spotNumber s) l → Phase full s l
-  tight : modeOf (s .regs .stat) ≡ 3 → 80 < s .beam .cycle → s .beam .line < height → Steady s → left s + s .beam .cycle ≤ 284
-      → Up full (spotNumber s) l → Phase full s l
-  loose : full ≡ false → modeOf (s .regs .stat) ≡ 3 → 80 < s .beam .cycle → s .beam .line ≡ 0 → Paced (s .pipe)
-      → (s .pipe .window ≡ true) ⊎ (left s + s .beam .cycle ≤ 284) → Up full (spotNumber s) l → Phase full s l
-  carried : full ≡ false → s .beam .line ≡ 1 → s .beam .cycle ≡ 0 → s .pipe .window ≡ true → Up full (spotNumber s) l → Phase full s l
-  ended : (modeOf (s .regs .stat) ≡ 3 → ⊥) → 80 < s .beam .cycle → s .beam .line < height → s .beam .x ≡ 0
-      → Up full (width * (s .beam .line + 1)) l → Phase full s l
-  rest : (modeOf (s .regs .stat) ≡ 3 → ⊥) → height ≤ s .beam .line → s .beam .x ≡ 0 → Up full places l → Phase full s l
+-- where a run stands by mode, line, cycle, column and pipe, with the numbers of the places stored: 204 draws behind cycle 80 end at 284
+pub data Phase (full : Bool) (mode line cycle x : ℕ) (p : Pipe) (l : List ℕ) : Type 0 where
+  before : (mode ≡ 3 → ⊥) → cycle ≤ 80 → line < height → Entry full line x p → Up full (place x line) l → Phase full mode line cycle x p l
+  tight : mode ≡ 3 → 80 < cycle → line < height → Steady x p → leftAt x p + cycle ≤ 284 → Up full (place x line) l
+      → Phase full mode line cycle x p l
+  loose : full ≡ false → mode ≡ 3 → 80 < cycle → line ≡ 0 → Paced p → (p .window ≡ true) ⊎ (leftAt x p + cycle ≤ 284)
+      → Up full (place x line) l → Phase full mode line cycle x p l
+  carried : full ≡ false → line ≡ 1 → cycle ≡ 0 → p .window ≡ true → Up full (place x line) l → Phase full mode line cycle x p l
+  ended : (mode ≡ 3 → ⊥) → 80 < cycle → line < height → x ≡ 0 → Up full (width * (line + 1)) l → Phase full mode line cycle x p l
+  rest : (mode ≡ 3 → ⊥) → height ≤ line → x ≡ 0 → Up full places l → Phase full mode line cycle x p l
 
 -- the same before the cycle advances by n
-pub data Mid (full : Bool) (n : ℕ) (s : State) (l : List ℕ) : Type 0 where
-  before : (modeOf (s .regs .stat) ≡ 3 → ⊥) → s .beam .cycle + n ≤ 80 → s .beam .line < height → Entry full s → Up full (spotNumber s) l → Mid full n s l
-  tight : modeOf (s .regs .stat) ≡ 3 → 80 ≤ s .beam .cycle → s .beam .line < height → Steady s → left s + (s .beam .cycle + n) ≤ 284
-      → Up full (spotNumber s) l → Mid full n s l
-  loose : full ≡ false → modeOf (s .regs .stat) ≡ 3 → 80 ≤ s .beam .cycle → s .beam .line ≡ 0 → Paced (s .pipe)
-      → (s .pipe .window ≡ true) ⊎ (left s + (s .beam .cycle + n) ≤ 284) → Up full (spotNumber s) l → Mid full n s l
-  ended : (modeOf (s .regs .stat) ≡ 3 → ⊥) → 80 ≤ s .beam .cycle → s .beam .line < height → s .beam .x ≡ 0
-      → Up full (width * (s .beam .line + 1)) l → Mid full n s l
-  rest : (modeOf (s .regs .stat) ≡ 3 → ⊥) → height ≤ s .beam .line → s .beam .x ≡ 0 → Up full places l → Mid full n s l
+pub data Mid (full : Bool) (n mode line cycle x : ℕ) (p : Pipe) (l : List ℕ) : Type 0 where
+  before : (mode ≡ 3 → ⊥) → cycle + n ≤ 80 → line < height → Entry full line x p → Up full (place x line) l → Mid full n mode line cycle x p l
+  tight : mode ≡ 3 → 80 ≤ cycle → line < height → Steady x p → leftAt x p + (cycle + n) ≤ 284 → Up full (place x line) l
+      → Mid full n mode line cycle x p l
+  loose : full ≡ false → mode ≡ 3 → 80 ≤ cycle → line ≡ 0 → Paced p → (p .window ≡ true) ⊎ (leftAt x p + (cycle + n) ≤ 284)
+      → Up full (place x line) l → Mid full n mode line cycle x p l
+  ended : (mode ≡ 3 → ⊥) → 80 ≤ cycle → line < height → x ≡ 0 → Up full (width * (line + 1)) l → Mid full n mode line cycle x p l
+  rest : (mode ≡ 3 → ⊥) → height ≤ line → x ≡ 0 → Up full places l → Mid full n mode line cycle x p l
 
--- a paced step from before a multiple of 4 does not pass it
-pub pace-to : (k cycle n : ℕ) → cycle % 2 ≡ 0 → cycle < 4 * k → paced cycle n ≡ true → cycle + n ≤ 4 * k
-pace-to k cycle n even below e = by (eqb n 2) refl e
-  where
-    by : (b : Bool) → eqb n 2 ≡ b → (b || (eqb n 4 && eqb (cycle % 4) 0)) ≡ true → cycle + n ≤ 4 * k
-    by true f g = let two : n ≡ 2 = eqb-true _ _ f in omega arith
-    by false f g =
-        let four : n ≡ 4 = eqb-true _ _ (first (eqb n 4) _ g) in
-        let quarter : cycle % 4 ≡ 0 = eqb-true _ _ (second (eqb n 4) _ g) in
-        omega arith
+-- where a state stands
+abbrev pub PhaseOf : Bool → State → List ℕ → Type 0
+PhaseOf full s l = Phase full (modeOf (s .regs .stat)) (s .beam .line) (s .beam .cycle) (s .beam .x) (s .pipe) l
 
-pub pace-small : (cycle n : ℕ) → paced cycle n ≡ true → (0 < n) × (n ≤ 4)
-pace-small cycle n e = by (eqb n 2) refl e
-  where
-    by : (b : Bool) → eqb n 2 ≡ b → (b || (eqb n 4 && eqb (cycle % 4) 0)) ≡ true → (0 < n) × (n ≤ 4)
-    by true f g = let two : n ≡ 2 = eqb-true _ _ f in (omega arith, omega arith)
-    by false f g = let four : n ≡ 4 = eqb-true _ _ (first (eqb n 4) _ g) in (omega arith, omega arith)
+abbrev pub MidOf : Bool → ℕ → State → List ℕ → Type 0
+MidOf full n s l = Mid full n (modeOf (s .regs .stat)) (s .beam .line) (s .beam .cycle) (s .beam .x) (s .pipe) l
+
+-- in every phase the places are places of the picture
+pub mid-rising : {full : Bool} {n mode line cycle x : ℕ} {p : Pipe} {l : List ℕ} → x < width → Mid full n mode line cycle x p l → Rising 0 places l
+mid-rising h (Mid.before m low line e up) = rising-upper (omega arith) (up .rises)
+mid-rising h (Mid.tight m low line t g up) = rising-upper (omega arith) (up .rises)
+mid-rising h (Mid.loose z m low line q g up) = rising-upper (omega arith) (up .rises)
+mid-rising h (Mid.ended m low line x up) = rising-upper (omega arith) (up .rises)
+mid-rising h (Mid.rest m line x up) = up .rises
+
+pub phase-rising : {full : Bool} {mode line cycle x : ℕ} {p : Pipe} {l : List ℕ} → x < width → Phase full mode line cycle x p l → Rising 0 places l
+phase-rising h (Phase.before m low line e up) = rising-upper (omega arith) (up .rises)
+phase-rising h (Phase.tight m low line t g up) = rising-upper (omega arith) (up .rises)
+phase-rising h (Phase.loose z m low line q g up) = rising-upper (omega arith) (up .rises)
+phase-rising h (Phase.carried z line cycle w up) = rising-upper (omega arith) (up .rises)
+phase-rising h (Phase.ended m low line x up) = rising-upper (omega arith) (up .rises)
+phase-rising h (Phase.rest m line x up) = up .rises
 
 -- the pipe and the column are what a view shows
-steady-view : {s r : State} → View s 3 (s .pipe) r → Steady s → Steady r
-steady-view v t =
-    record {
-      paced = rw (v .pipe) (t .paced);
-      short = λ w. rw (v .pipe) (t .short (rw (v .pipe) at w));
-      still = λ w h. rw (v .pipe) (t .still (rw (v .pipe) at w) (rw (v .x) at h));
-    }
+steady-view : {s r : State} → View s 3 (s .pipe) r → Steady (s .beam .x) (s .pipe) → Steady (r .beam .x) (r .pipe)
+steady-view v t = rw (v .pipe, v .x) t
 
 left-view : {s r : State} → View s 3 (s .pipe) r → left r ≡ left s
 left-view v = rw (v .pipe, v .x)
-
-entry-view : {full : Bool} {s r : State} → r .pipe ≡ s .pipe → r .beam .line ≡ s .beam .line → r .beam .x ≡ s .beam .x → Entry full s → Entry full r
-entry-view p l x (at0 e) = at0 (x ∙ e)
-entry-view p l x (inside e) = inside (rw p e)
-entry-view p l x (first′ o e) = first′ o (l ∙ e)
 
 less-or : (cycle : ℕ) → cycle ≤ 80 → (cycle < 80) ⊎ (cycle ≡ 80)
 less-or cycle h = by (decLt cycle 80)
@@ -137,71 +129,71 @@ drawing {full} n vram r l f m c up = by ran (ran .came)
     by q (on low at k) = goes k (up-same (omega (arith, q .line)) (up-more q up))
     by q (over end at k) = stops (λ z. absurd (omega arith)) at (up-same (omega arith) (up-more q up))
 
-module _ (full : Bool) (n : ℕ) (vram oam : List ℕ) (s : State) (f : Fine s) (pace : paced (s .beam .cycle) n ≡ true) (c : s .beam .count < 65536) where
+module _ (full : Bool) (n : ℕ) (lent : Tables) (s : State) (f : Fine s) (pace : paced (s .beam .cycle) n ≡ true) (c : s .beam .count < 65536) where
   ready : State
-  ready = searched oam (entered s)
+  ready = searched (lent .oam) (entered s)
 
   fine : Fine ready
   unfolding ready
-  fine = ready-fine oam s f
+  fine = ready-fine (lent .oam) s f
 
   -- nothing is drawn: the state and the list stay
-  idle : {l : List ℕ} → (modeOf (ready .regs .stat) ≡ 3 → ⊥) → Mid full n ready l
-      → Mid full n (working n vram oam s .state) (l ++ numbers (storedBy (working n vram oam s .shots)))
+  idle : {l : List ℕ} → (modeOf (ready .regs .stat) ≡ 3 → ⊥) → MidOf full n ready l
+      → MidOf full n (working n lent s .state) (l ++ numbers (storedBy (working n lent s .shots)))
   unfolding working ready
   idle {l} m k =
-      let o = burst-idle n vram (searched oam (entered s)) m in
+      let o = burst-idle n (lent .vram) (searched (lent .oam) (entered s)) m in
       rw (o .0, o .1, append-nil) k
 
-  same-line : burst n vram ready .state .beam .line ≡ ready .beam .line
-  same-line = burst-same n vram ready .line
+  same-line : burst n (lent .vram) ready .state .beam .line ≡ ready .beam .line
+  same-line = burst-same n (lent .vram) ready .line
 
-  same-cycle : burst n vram ready .state .beam .cycle ≡ ready .beam .cycle
-  same-cycle = burst-same n vram ready .cycle
+  same-cycle : burst n (lent .vram) ready .state .beam .cycle ≡ ready .beam .cycle
+  same-cycle = burst-same n (lent .vram) ready .cycle
 
   -- draws from a steady state
-  from-steady : {l : List ℕ} → modeOf (ready .regs .stat) ≡ 3 → 80 ≤ ready .beam .cycle → ready .beam .line < height → Steady ready
+  from-steady : {l : List ℕ} → modeOf (ready .regs .stat) ≡ 3 → 80 ≤ ready .beam .cycle → ready .beam .line < height → Steady (ready .beam .x) (ready .pipe)
       → left ready + ready .beam .cycle ≤ 284 → ready .beam .count < 65536 → Up full (spotNumber ready) l
-      → Mid full n (burst n vram ready .state) (l ++ numbers (storedBy (burst n vram ready .shots)))
-  from-steady {l} m low line t h k up = by (drawing n vram ready l fine m k up)
+      → MidOf full n (burst n (lent .vram) ready .state) (l ++ numbers (storedBy (burst n (lent .vram) ready .shots)))
+  from-steady {l} m low line t h k up = by (drawing n (lent .vram) ready l fine m k up)
     where
-      by : Drawing full ready (burst n vram ready .state) (l ++ numbers (storedBy (burst n vram ready .shots)))
-          → Mid full n (burst n vram ready .state) (l ++ numbers (storedBy (burst n vram ready .shots)))
+      by : Drawing full ready (burst n (lent .vram) ready .state) (l ++ numbers (storedBy (burst n (lent .vram) ready .shots)))
+          → MidOf full n (burst n (lent .vram) ready .state) (l ++ numbers (storedBy (burst n (lent .vram) ready .shots)))
       by (goes g u) =
-          let d = burst-falls n vram ready fine t g in
+          let d = burst-falls n (lent .vram) ready fine t g in
           tight g (omega (arith, same-cycle)) (omega (arith, same-line)) (d .1) (omega (arith, d .0, same-cycle)) u
       by (stops g x u) = ended g (omega (arith, same-cycle)) (omega (arith, same-line)) x (up-same (omega (arith, same-line)) u)
 
   -- draws of line 0 after a blanking
   from-loose : {l : List ℕ} → full ≡ false → modeOf (ready .regs .stat) ≡ 3 → 80 ≤ ready .beam .cycle → ready .beam .line ≡ 0 → Paced (ready .pipe)
       → (ready .pipe .window ≡ true) ⊎ (left ready + ready .beam .cycle ≤ 284) → ready .beam .count < 65536 → Up full (spotNumber ready) l
-      → Mid full n (burst n vram ready .state) (l ++ numbers (storedBy (burst n vram ready .shots)))
-  from-loose {l} z m low line o h k up = by (drawing n vram ready l fine m k up)
+      → MidOf full n (burst n (lent .vram) ready .state) (l ++ numbers (storedBy (burst n (lent .vram) ready .shots)))
+  from-loose {l} z m low line o h k up = by (drawing n (lent .vram) ready l fine m k up)
     where
-      by : Drawing full ready (burst n vram ready .state) (l ++ numbers (storedBy (burst n vram ready .shots)))
-          → Mid full n (burst n vram ready .state) (l ++ numbers (storedBy (burst n vram ready .shots)))
+      by : Drawing full ready (burst n (lent .vram) ready .state) (l ++ numbers (storedBy (burst n (lent .vram) ready .shots)))
+          → MidOf full n (burst n (lent .vram) ready .state) (l ++ numbers (storedBy (burst n (lent .vram) ready .shots)))
       by (goes g u) =
-          loose z g (omega (arith, same-cycle)) (same-line ∙ line) (burst-paced n vram ready o g)
-          (⊎-elim (λ w. inl (burst-window n vram ready w g))
-          (λ e. ⊎-elim (λ w. inl w) (λ d. inr (omega (arith, same-cycle))) (burst-loose n vram ready fine o g)) h)
+          loose z g (omega (arith, same-cycle)) (same-line ∙ line) (burst-paced n (lent .vram) ready o g)
+          (⊎-elim (λ w. inl (burst-window n (lent .vram) ready w g))
+          (λ e. ⊎-elim (λ w. inl w) (λ d. inr (omega (arith, same-cycle))) (burst-loose n (lent .vram) ready fine o g)) h)
           u
       by (stops g x u) = ended g (omega (arith, same-cycle)) (omega (arith, same-line)) x (up-same (omega (arith, same-line)) u)
 
   -- the draws of the step, from wherever it stands
-  pub worked : {l : List ℕ} → Phase full s l → Mid full n (working n vram oam s .state) (l ++ numbers (storedBy (working n vram oam s .shots)))
+  pub worked : {l : List ℕ} → PhaseOf full s l → MidOf full n (working n lent s .state) (l ++ numbers (storedBy (working n lent s .shots)))
   unfolding working ready
   worked {l} (before m low line e up) = ⊎-elim early starts (less-or (s .beam .cycle) low)
     where
-      early : s .beam .cycle < 80 → Mid full n (burst n vram ready .state) (l ++ numbers (storedBy (burst n vram ready .shots)))
+      early : s .beam .cycle < 80 → MidOf full n (burst n (lent .vram) ready .state) (l ++ numbers (storedBy (burst n (lent .vram) ready .shots)))
       early h =
-          let v = view-early oam s line h in
+          let v = view-early (lent .oam) s line h in
           let other : modeOf (ready .regs .stat) ≡ 3 → ⊥ = λ z. v .1 m (sym (v .2 .mode) ∙ z) in
-          idle {l = l} other (before other (rw (v .2 .cycle) (pace-to 20 (s .beam .cycle) n (f .order .even) h pace)) (rw (v .2 .line) line)
-          (entry-view (v .2 .pipe) (v .2 .line) (v .2 .x) e) (rw (v .2 .line, v .2 .x) up))
+          idle {l = l} other (before other (rw (v .2 .cycle) (pace-to (s .beam .cycle) n pace 20 (f .beam .even) h)) (rw (v .2 .line) line)
+          (rw (v .2 .line, v .2 .x, v .2 .pipe) e) (rw (v .2 .line, v .2 .x) up))
 
-      starts : s .beam .cycle ≡ 80 → Mid full n (burst n vram ready .state) (l ++ numbers (storedBy (burst n vram ready .shots)))
+      starts : s .beam .cycle ≡ 80 → MidOf full n (burst n (lent .vram) ready .state) (l ++ numbers (storedBy (burst n (lent .vram) ready .shots)))
       starts h =
-          let v = view-render oam s line h in
+          let v = view-render (lent .oam) s line h in
           let o : Paced (ready .pipe) = paced-start (ready .pipe) (rw (v .pipe) refl) in
           let d : ready .pipe .discard ≤ 7 = rw (v .pipe) (omega arith) in
           let most : left ready ≤ 204 = left-any ready d in
@@ -211,30 +203,30 @@ module _ (full : Bool) (n : ℕ) (vram oam : List ℕ) (s : State) (f : Fine s) 
           by v o d at here u e
         where
           by : View s 3 (rendering (s .regs .scx) (s .pipe)) ready → Paced (ready .pipe) → ready .pipe .discard ≤ 7 → 80 ≤ ready .beam .cycle
-              → left ready + ready .beam .cycle ≤ 284 → Up full (spotNumber ready) l → Entry full s
-              → Mid full n (burst n vram ready .state) (l ++ numbers (storedBy (burst n vram ready .shots)))
+              → left ready + ready .beam .cycle ≤ 284 → Up full (spotNumber ready) l → Entry full (s .beam .line) (s .beam .x) (s .pipe)
+              → MidOf full n (burst n (lent .vram) ready .state) (l ++ numbers (storedBy (burst n (lent .vram) ready .shots)))
           by v o d at here u (at0 x) = from-steady {l = l} (v .mode) at (rw (v .line) line) (steady-start o d (v .x ∙ x)) here (rw (v .count) c) u
           by v o d at here u (inside w) =
               from-steady {l = l} (v .mode) at (rw (v .line) line) (steady-inside o (rw (v .pipe) w)) here (rw (v .count) c) u
           by v o d at here u (first′ b z) = from-loose {l = l} b (v .mode) at (v .line ∙ z) o (inr here) (rw (v .count) c) u
   worked {l} (tight m low line t h up) =
-      let v = rw m at (view-late oam s line low) in
+      let v = rw m at (view-late (lent .oam) s line low) in
       from-steady {l = l} (v .mode) (omega (arith, v .cycle)) (rw (v .line) line) (steady-view v t) (rw (left-view v, v .cycle) h) (rw (v .count) c)
       (rw (v .line, v .x) up)
   worked {l} (loose z m low line o h up) =
-      let v = rw m at (view-late oam s (omega arith) low) in
+      let v = rw m at (view-late (lent .oam) s (omega arith) low) in
       from-loose {l = l} z (v .mode) (omega (arith, v .cycle)) (v .line ∙ line) (rw (v .pipe) o)
       (⊎-elim (λ w. inl (rw (v .pipe) w)) (λ k. inr (rw (left-view v, v .cycle) k)) h) (rw (v .count) c) (rw (v .line, v .x) up)
   worked {l} (carried z line cycle w up) =
-      let v = view-scan oam s (omega arith) cycle in
+      let v = view-scan (lent .oam) s (omega arith) cycle in
       let other : modeOf (ready .regs .stat) ≡ 3 → ⊥ = λ z. absurd (omega (arith, v .mode)) in
       idle {l = l} other (before other (omega (arith, v .cycle, pace-small (s .beam .cycle) n pace .1)) (omega (arith, v .line)) (inside (rw (v .pipe) w))
       (rw (v .line, v .x) up))
   worked {l} (ended m low line x up) =
-      let v = view-late oam s line low in
+      let v = view-late (lent .oam) s line low in
       let other : modeOf (ready .regs .stat) ≡ 3 → ⊥ = λ z. m (sym (v .mode) ∙ z) in
       idle {l = l} other (ended other (omega (arith, v .cycle)) (rw (v .line) line) (v .x ∙ x) (rw (v .line) up))
   worked {l} (rest m line x up) =
-      let v = view-below oam s line in
+      let v = view-below (lent .oam) s line in
       let other : modeOf (ready .regs .stat) ≡ 3 → ⊥ = v .mode m in
       idle {l = l} other (rest other (rw (v .line) line) (v .x ∙ x) up)

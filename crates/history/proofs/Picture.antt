@@ -12,7 +12,7 @@ use Rattle.draw.specs.declared.Shot.{Shot}
 use Rattle.draw.specs.declared.Shot.the-variants.{Place, Nothing}
 use Rattle.burst.specs.Burst.{allStored}
 use Rattle.history.specs.Stored.{Stored, storedBy, allBytes, from, numbers}
-use Rattle.history.proofs.Rising.{Rising, from-more, from-length, rising-whole}
+use Rattle.history.proofs.Rising.{from-more, from-length}
 
 -- a picture with places stored in it, one after the other
 unfoldable pub put : List ℕ → List Stored → List ℕ
@@ -30,27 +30,6 @@ pub put-append : (picture : List ℕ) (l r : List Stored) → put picture (l ++ 
 unfolding put
 put-append picture [] r = refl
 put-append picture (t ∷ l) r = put-append _ l r
-
-pub put-length : (picture : List ℕ) (l : List Stored) → length (put picture l) ≡ length picture
-unfolding put
-put-length picture [] = refl
-put-length picture (t ∷ l) = put-length _ l ∙ length-sets picture (3 * t .place) (bytesOf (t .bytes))
-
-pub stored-append : (a b : List Shot) → storedBy (a ++ b) ≡ storedBy a ++ storedBy b
-unfolding storedBy
-stored-append [] b = refl
-stored-append (Place x y p ∷ a) b = rw (stored-append a b)
-stored-append (Nothing ∷ a) b = stored-append a b
-
-pub bytes-append : (l r : List Stored) → allBytes (l ++ r) ≡ allBytes l ++ allBytes r
-unfolding allBytes
-bytes-append [] r = refl
-bytes-append (t ∷ l) r = ap (λ (q : List ℕ). bytesOf (t .bytes) ++ q) (bytes-append l r)
-
-pub bytes-length : (l : List Stored) → length (allBytes l) ≡ 3 * length l
-unfolding allBytes
-bytes-length [] = refl
-bytes-length (t ∷ l) = omega (arith, bytes-length l)
 
 -- one place stored: the front with its bytes, and what is behind
 module _ (picture : List ℕ) (a : ℕ) (p : Rgb) (fits : 3 * a + 3 ≤ length picture) where
@@ -100,17 +79,6 @@ put-from picture a (t ∷ l) e fits =
 pub numbers-length : (l : List Stored) (a k : ℕ) → numbers l ≡ from a k → length l ≡ k
 numbers-length l a k e = sym (length-map l (λ (t : Stored). t .place)) ∙ ap length e ∙ from-length a k
 
--- draws that stored k places one after the other from a
-pub all-stored-from : (picture : List ℕ) (a k : ℕ) (shots : List Shot) → length picture ≡ pictureBytes → a + k ≤ places
-    → numbers (storedBy shots) ≡ from a k
-    → allStored picture shots ≡ take (3 * a) picture ++ allBytes (storedBy shots) ++ drop (3 * (a + k)) picture
-all-stored-from picture a k shots size fits e =
-    let l = storedBy shots in
-    let n : length l ≡ k = numbers-length l a k e in
-    all-stored picture shots
-    ∙ put-from picture a l (e ∙ ap (λ (j : ℕ). from a j) (sym n)) (omega arith)
-    ∙ ap (λ (j : ℕ). take (3 * a) picture ++ allBytes l ++ drop (3 * (a + j)) picture) n
-
 -- all places of a picture: it holds their bytes, whatever it held before
 pub put-whole : (picture : List ℕ) (l : List Stored) → length picture ≡ pictureBytes → numbers l ≡ from 0 places → put picture l ≡ allBytes l
 put-whole picture l size e =
@@ -119,12 +87,3 @@ put-whole picture l size e =
     put-from picture 0 l (e ∙ ap (λ (j : ℕ). from 0 j) (sym n)) (omega arith)
     ∙ ap (λ (q : List ℕ). allBytes l ++ q) (drop-of-length-le picture over)
     ∙ append-nil (allBytes l)
-
-pub put-rising : (picture : List ℕ) (l : List Stored) → length picture ≡ pictureBytes → Rising 0 places (numbers l) → length l ≡ places
-    → put picture l ≡ allBytes l
-put-rising picture l size r n =
-    put-whole picture l size (rising-whole r (length-map l (λ (t : Stored). t .place) ∙ n))
-
-pub all-stored-whole : (picture : List ℕ) (shots : List Shot) → length picture ≡ pictureBytes → numbers (storedBy shots) ≡ from 0 places
-    → allStored picture shots ≡ allBytes (storedBy shots)
-all-stored-whole picture shots size e = all-stored picture shots ∙ put-whole picture (storedBy shots) size e

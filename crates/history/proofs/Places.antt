@@ -1,24 +1,24 @@
 -- The places that draws store in mode 3 follow one another along the line, and each is counted.
 use mathlib.Core.Path.{_≡_, refl, sym, ap, _∙_}
-use mathlib.Core.Bool.{Bool, true, false, cond}
-use mathlib.Core.List.{List, [], _∷_, map}
+use mathlib.Core.List.{List, [], _∷_}
 use Prim.Native.Nat.{ℕ, zero, suc, _+_, _%_, _≤_, _<_}
 use native.Mathlib.Omega.{arith}
-use borrow.Author.Tests.{eq-eqb, eqb-true, eqb-false}
-use lib.Dec.{eqb, leb}
+use borrow.Author.Tests.{eq-eqb}
 use lib.ListN.{length}
 use Rattle.hardware.specs.Screen.{width, place}
 use Rattle.lcd.specs.declared.Rgb.{Rgb}
-use Rattle.state.specs.With.{modeOf, withPipe}
-use Rattle.state.specs.declared.Pipe.{Pipe}
+use Rattle.state.specs.With.{modeOf}
 use Rattle.state.specs.declared.State.{State}
-use Rattle.draw.specs.Draw.{drawn, shifted, fedPipe, discarded, popped, pixelDrawn, afterPixel, endedRegisters, endedPipe, endedBeam, moved, shade}
+use Rattle.order.specs.Fine.{Fine}
+use Rattle.pipe.specs.Window.{opened}
+use Rattle.draw.specs.Draw.{drawn}
 use Rattle.draw.specs.declared.Drawn.{Drawn}
 use Rattle.draw.specs.declared.Shot.{Shot}
 use Rattle.draw.specs.declared.Shot.the-variants.{Place, Nothing}
-use Rattle.draw.proofs.Order.{Fine, drawn-fine}
+use Rattle.draw.proofs.Ways.{drawn-cases}
+use Rattle.draw.proofs.Fine.{drawn-fine}
 use Rattle.burst.specs.Burst.{Burst, burst}
-use Rattle.burst.proofs.Left.{burst-out}
+use Rattle.burst.proofs.Ways.{burst-out}
 use Rattle.history.specs.Stored.{Stored, storedBy, from, numbers}
 use Rattle.history.proofs.Rising.{Rising, from-none, from-more, from-rising}
 
@@ -27,58 +27,24 @@ abbrev pub spotNumber : State → ℕ
 spotNumber s = place (s .beam .x) (s .beam .line)
 
 -- one draw of mode 3: nothing is stored; or the place is, and the next is at its right; or it was the last of the line
-pub data Drew (s : State) (d : Drawn) : Type 0 where
+data OneDraw (s : State) (d : Drawn) : Type 0 where
   nothing : d .shot ≡ Nothing → d .state .beam .line ≡ s .beam .line → d .state .beam .x ≡ s .beam .x
-      → d .state .beam .count ≡ s .beam .count → modeOf (d .state .regs .stat) ≡ 3 → Drew s d
+      → d .state .beam .count ≡ s .beam .count → modeOf (d .state .regs .stat) ≡ 3 → OneDraw s d
   along : (p : Rgb) → d .shot ≡ Place (s .beam .x) (s .beam .line) p → d .state .beam .line ≡ s .beam .line
       → s .beam .x + 1 < width → d .state .beam .x ≡ s .beam .x + 1
-      → d .state .beam .count ≡ (s .beam .count + 1) % 65536 → modeOf (d .state .regs .stat) ≡ 3 → Drew s d
+      → d .state .beam .count ≡ (s .beam .count + 1) % 65536 → modeOf (d .state .regs .stat) ≡ 3 → OneDraw s d
   last : (p : Rgb) → d .shot ≡ Place (s .beam .x) (s .beam .line) p → d .state .beam .line ≡ s .beam .line
       → s .beam .x + 1 ≡ width → d .state .beam .x ≡ 0
-      → d .state .beam .count ≡ (s .beam .count + 1) % 65536 → modeOf (d .state .regs .stat) ≡ 0 → Drew s d
+      → d .state .beam .count ≡ (s .beam .count + 1) % 65536 → modeOf (d .state .regs .stat) ≡ 0 → OneDraw s d
 
-pixel-drew : (s : State) (p : Pipe) (c : Rgb) → s .beam .x < width → modeOf (s .regs .stat) ≡ 3
-    → Drew s (record { state = afterPixel s p; shot = Place (s .beam .x) (s .beam .line) c })
-unfolding afterPixel
-pixel-drew s p c low m = by (eqb (s .beam .x + 1) width) refl
-  where
-    by : (b : Bool) → eqb (s .beam .x + 1) width ≡ b → Drew s (record {
-      state = cond b
-          (record {
-            machine = s .machine;
-            regs = endedRegisters (s .regs);
-            palettes = s .palettes;
-            selection = s .selection;
-            pipe = endedPipe p;
-            beam = endedBeam (s .beam);
-          })
-          (record {
-            machine = s .machine;
-            regs = s .regs;
-            palettes = s .palettes;
-            selection = s .selection;
-            pipe = p;
-            beam = moved (s .beam);
-          });
-      shot = Place (s .beam .x) (s .beam .line) c;
-    })
-    by true e = last c refl refl (eqb-true _ _ e) refl refl (omega arith)
-    by false e =
-        let other : s .beam .x + 1 ≡ width → ⊥ = eqb-false _ _ e in
-        along c refl refl (omega arith) refl refl m
-
-pub drawn-drew : (vram : List ℕ) (s : State) → Fine s → modeOf (s .regs .stat) ≡ 3 → Drew s (drawn vram s)
-unfolding shifted
-drawn-drew vram s f m = by (leb (p .bg .len) 8) (eqb (p .discard) 0)
-  where
-    p : Pipe
-    p = fedPipe vram s
-
-    by : (b d : Bool) → Drew s (cond b (record { state = withPipe s p; shot = Nothing })
-        (cond d (pixelDrawn vram s p) (record { state = withPipe s (discarded p); shot = Nothing })))
-    by true d = nothing refl refl refl refl m
-    by false true = pixel-drew s (popped vram s p) (shade vram s p) (f .order .x) m
-    by false false = nothing refl refl refl refl m
+one-draw : (vram : List ℕ) (s : State) → Fine s → modeOf (s .regs .stat) ≡ 3 → OneDraw s (drawn vram s)
+one-draw vram s f m =
+    let low : s .beam .x < width = f .beam .x in
+    drawn-cases (opened (s .regs) (s .beam .line)) vram s (OneDraw s)
+    (λ h. nothing refl refl refl refl m)
+    (λ h d. nothing refl refl refl refl m)
+    (λ h d o. along _ refl refl (omega arith) refl refl m)
+    (λ h d e. last _ refl refl e refl refl (omega arith))
 
 -- k places along a line from x: mode 3 goes on behind them, or they were the last
 pub data Came (x k : ℕ) (u : State) : Type 0 where
@@ -165,9 +131,9 @@ ran-last {s = s} p line end at count m =
 pub burst-ran : (n : ℕ) (vram : List ℕ) (s : State) → Fine s → modeOf (s .regs .stat) ≡ 3 → s .beam .count < 65536
     → Ran n s (burst n vram s .state) (storedBy (burst n vram s .shots))
 unfolding burst
-burst-ran zero vram s f m c = rw stored-none (still 0 s (f .order .x) m c)
+burst-ran zero vram s f m c = rw stored-none (still 0 s (f .beam .x) m c)
 burst-ran (suc n) vram s f m c =
-    rw (eq-eqb _ _ m) (by (drawn-drew vram s f m) (λ m′ c′. burst-ran n vram t (drawn-fine vram s f) m′ c′))
+    rw (eq-eqb _ _ m) (by (one-draw vram s f m) (λ m′ c′. burst-ran n vram t (drawn-fine (opened (s .regs) (s .beam .line)) vram s f) m′ c′))
   where
     t : State
     t = drawn vram s .state
@@ -175,7 +141,7 @@ burst-ran (suc n) vram s f m c =
     rest : Burst
     rest = burst n vram t
 
-    by : Drew s (drawn vram s) → (modeOf (t .regs .stat) ≡ 3 → t .beam .count < 65536 → Ran n t (rest .state) (storedBy (rest .shots)))
+    by : OneDraw s (drawn vram s) → (modeOf (t .regs .stat) ≡ 3 → t .beam .count < 65536 → Ran n t (rest .state) (storedBy (rest .shots)))
         → Ran (suc n) s (rest .state) (storedBy (drawn vram s .shot ∷ rest .shots))
     by (nothing e line x count m′) r = rw (stored-nothing (rest .shots) e) (ran-nothing line x count (r m′ (omega arith)))
     by (along p e line low x count m′) r = rw (stored-place (rest .shots) e) (ran-along line p x count (r m′ (omega arith)))

@@ -6,26 +6,30 @@ use mathlib.Core.Logic.{_↔_}
 use mathlib.Core.Bool.{Bool, true, not, _&&_}
 use mathlib.Core.List.{List, [], _∷_, List·Memᴰ}
 use lib.ListN.{length, replicate}
-use Rattle.hardware.specs.Screen.{places, pictureBytes}
-use Rattle.lcd.specs.Pictures.{chosen}
+use Rattle.hardware.specs.Screen.{places}
+use Rattle.hardware.specs.declared.Machine.{Machine}
+use Rattle.lcd.specs.Pictures.{Pictures, PicturesSized, shownOf}
 use Rattle.state.specs.With.{modeOf}
-use Rattle.state.specs.declared.State.{State}
 use Rattle.step.specs.Step.{lit, report}
 use Rattle.step.specs.declared.Report.{Report}
 use Rattle.history.specs.Run.{World, Call, step, number, perform, freshWorld, swapped, blanked}
-use Rattle.history.specs.Stored.{Stored, Trace, through, go, trace, begun, numbers, from, allBytes}
+use Rattle.history.specs.Stored.{Trace, through, go, trace, begun, numbers, from, allBytes}
 
--- calls from an accepted start of any device
-abbrev pub ran : Bool → Bool → List Call → Trace
-ran dmg wanted calls = trace calls (begun (freshWorld dmg wanted))
+-- calls from an accepted start of any machine
+abbrev pub ran : Machine → List Call → Trace
+ran machine calls = trace calls (begun (freshWorld machine))
+
+-- of every run: any machine, any calls
+abbrev pub EveryRun : (Trace → Type 0) → Type 0
+EveryRun P = (machine : Machine) (before : List Call) → P (ran machine before)
 
 -- what a step answers
 abbrev pub answer : ℕ → World → Report
-answer n w = report n (w .vram) (w .oam) (w .state)
+answer n w = report n (w .tables) (w .state)
 
 -- the picture that is shown
 abbrev pub shownPicture : World → List ℕ
-shownPicture w = chosen (w .state .beam .shown) (w .a) (w .b)
+shownPicture w = shownOf (w .state .beam .shown) (w .pictures)
 
 -- line 0, cycle 0
 pub record AtOrigin (w : World) : Type 0 where
@@ -44,7 +48,7 @@ staysHidden (c ∷ rest) t = not (swapped c (t .world)) && staysHidden rest (go 
 
 -- 1. never 2: no call of a run is refused as out of order
 abbrev pub Never2 : Type 0
-Never2 = (dmg wanted : Bool) (before : List Call) (c : Call) → number c (ran dmg wanted before .world) ≡ 2 → ⊥
+Never2 = EveryRun (λ (t : Trace). (c : Call) → number c (t .world) ≡ 2 → ⊥)
 
 -- 2. the count, in the state and in the answer of every accepted step, is the number of places stored, at most 23,040
 pub record Counts (t : Trace) : Type 0 where
@@ -53,46 +57,51 @@ pub record Counts (t : Trace) : Type 0 where
   pub answers : (n : ℕ) → number (step n) (t .world) ≡ 0 → answer n (t .world) .count ≡ length (through (step n) t)
 
 abbrev pub Counted : Type 0
-Counted = (dmg wanted : Bool) (before : List Call) → Counts (ran dmg wanted before)
+Counted = EveryRun Counts
 
--- 3. each line ends in time: from line 0, cycle 0, never switched off, mode 3 is over at cycle 284 of its line
+-- 3. each line ends in time: mode 3 is over at cycle 284 of its line
+abbrev pub InTime : World → Type 0
+InTime w = modeOf (w .state .regs .stat) ≡ 3 → (80 < w .state .beam .cycle) × (w .state .beam .cycle < 284)
+
+-- from line 0, cycle 0, never switched off
 abbrev pub EndsInTime : Type 0
 EndsInTime =
-    (dmg wanted : Bool) (before after : List Call) → AtOrigin (ran dmg wanted before .world) → staysOn after (ran dmg wanted before) ≡ true
-    → modeOf (trace after (ran dmg wanted before) .world .state .regs .stat) ≡ 3
-    → (80 < trace after (ran dmg wanted before) .world .state .beam .cycle) × (trace after (ran dmg wanted before) .world .state .beam .cycle < 284)
+    EveryRun (λ (t : Trace). (after : List Call) → AtOrigin (t .world) → staysOn after t ≡ true → InTime (trace after t .world))
 
--- 4. each place once: from line 0, cycle 0, to the step that swaps, never switched off, the places stored are 0 to 23,039, rising, and
--- the picture shown after the swap holds exactly their bytes, whatever stands in the pictures at line 0, cycle 0
-abbrev pub repainted : Trace → List ℕ → List ℕ → Trace
-repainted t a b = record { world = record { state = t .world .state; vram = t .world .vram; oam = t .world .oam; a = a; b = b }; since = t .since }
-
+-- 4. each place once: up to a step that swaps the places stored are 0 to 23,039, rising, and the picture shown after the swap
+-- holds exactly their bytes
 pub record Frame (n : ℕ) (t : Trace) : Type 0 where
   pub once : numbers (through (step n) t) ≡ from 0 places
   pub shown : shownPicture (perform (step n) (t .world)) ≡ allBytes (through (step n) t)
 
-abbrev pub EachOnce : Type 0
-EachOnce =
-    (dmg wanted : Bool) (before after : List Call) (a b : List ℕ) (n : ℕ) → length a ≡ pictureBytes → length b ≡ pictureBytes
-    → AtOrigin (ran dmg wanted before .world) → staysOn after (repainted (ran dmg wanted before) a b) ≡ true
-    → staysHidden after (repainted (ran dmg wanted before) a b) ≡ true
-    → swapped (step n) (trace after (repainted (ran dmg wanted before) a b) .world) ≡ true
-    → Frame n (trace after (repainted (ran dmg wanted before) a b))
+-- after any calls that neither switch the display off nor swap
+abbrev pub Once : Trace → Type 0
+Once t =
+    (after : List Call) (n : ℕ) → staysOn after t ≡ true → staysHidden after t ≡ true
+    → swapped (step n) (trace after t .world) ≡ true → Frame n (trace after t)
 
--- 5. the mark: at every step that swaps it is yes exactly if every place was stored
+-- whatever stands in the pictures
+abbrev pub repainted : Trace → Pictures → Trace
+repainted t p = record { world = record { state = t .world .state; tables = t .world .tables; pictures = p }; since = t .since }
+
+-- from line 0, cycle 0
+abbrev pub EachOnce : Type 0
+EachOnce = EveryRun (λ (t : Trace). (p : Pictures) → PicturesSized p → AtOrigin (t .world) → Once (repainted t p))
+
+-- 5. the mark is yes exactly if every place was stored
+abbrev pub Mark : ℕ → Trace → Type 0
+Mark n t = (answer n (t .world) .whole ≡ true) ↔ ((k : ℕ) → k < places → List·Memᴰ k (numbers (through (step n) t)))
+
+-- at every step that swaps
 abbrev pub Marked : Type 0
-Marked =
-    (dmg wanted : Bool) (before : List Call) (n : ℕ) → swapped (step n) (ran dmg wanted before .world) ≡ true
-    → (answer n (ran dmg wanted before .world) .whole ≡ true)
-    ↔ ((k : ℕ) → k < places → List·Memᴰ k (numbers (through (step n) (ran dmg wanted before))))
+Marked = EveryRun (λ (t : Trace). (n : ℕ) → swapped (step n) (t .world) ≡ true → Mark n t)
 
 -- 6. what the pictures held does not matter: worlds that differ only there store the same
 pub record Alike (w v : World) : Type 0 where
   pub state : w .state ≡ v .state
-  pub vram : w .vram ≡ v .vram
-  pub oam : w .oam ≡ v .oam
-  pub a : length (w .a) ≡ length (v .a)
-  pub b : length (w .b) ≡ length (v .b)
+  pub tables : w .tables ≡ v .tables
+  pub a : length (w .pictures .a) ≡ length (v .pictures .a)
+  pub b : length (w .pictures .b) ≡ length (v .pictures .b)
 
 pub record AlikeRuns (t u : Trace) : Type 0 where
   pub world : Alike (t .world) (u .world)
@@ -109,13 +118,11 @@ pub record Reaches (t : Trace) : Type 0 where
   pub swap : swapped (step 4) (trace (replicate 17555 (step 4)) t .world) ≡ true
 
 abbrev pub Reached : Type 0
-Reached =
-    (dmg wanted : Bool) (before : List Call) → AtOrigin (ran dmg wanted before .world) → lit (ran dmg wanted before .world .state) ≡ true
-    → Reaches (ran dmg wanted before)
+Reached = EveryRun (λ (t : Trace). AtOrigin (t .world) → lit (t .world .state) ≡ true → Reaches t)
 
 pub record Begins (t : Trace) : Type 0 where
   pub origin : AtOrigin (t .world)
   pub on : lit (t .world .state) ≡ true
 
 abbrev pub Begun : Type 0
-Begun = (dmg wanted : Bool) → Begins (go (step 4) (ran dmg wanted (replicate 13 (step 4))))
+Begun = (machine : Machine) → Begins (go (step 4) (ran machine (replicate 13 (step 4))))

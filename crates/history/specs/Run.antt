@@ -1,29 +1,30 @@
--- A world, the calls that may come after a start, and what the public promises say of one call and of a run.
+-- A world, the calls that may come after a start, and what the public promises say of one call.
 use Prim.Native.Nat.{ℕ}
 use mathlib.Core.Bool.{Bool, false, cond, _&&_}
-use mathlib.Core.List.{List, [], _∷_}
+use mathlib.Core.List.{List, []}
 use lib.ListN.{replicate}
+use Rattle.refusals.specs.Ladder.{done}
 use Rattle.hardware.specs.Screen.{pictureBytes}
-use Rattle.state.specs.With.{modeOf}
+use Rattle.hardware.specs.declared.Machine.{Machine}
+use Rattle.hardware.specs.Tables.{Tables, tables, vramBytes, oamBytes, withVram, withOam}
+use Rattle.lcd.specs.Pictures.{Pictures, pictures}
 use Rattle.state.specs.declared.State.{State}
 use Rattle.memory.specs.Fresh.{freshState}
 use Rattle.memory.specs.Writes.{vramWritten, oamWritten}
-use Rattle.registers.specs.Write.{kept, blanks, stateWritten, pictureWritten, colourSet}
-use Rattle.oam_bug.specs.Corruption.{rowAt, writeCorrupted, readCorrupted, readWriteCorrupted}
+use Rattle.registers.specs.Write.{kept, blanks, stateWritten, picturesWritten, colourSet}
+use Rattle.oam_bug.specs.Corruption.{writeCorrupted, readCorrupted, readWriteCorrupted}
 use Rattle.sprite.specs.Pick.{pickNumber}
 use Rattle.draw.specs.declared.Shot.{Shot}
 use Rattle.beam.specs.Advance.{swaps}
-use Rattle.step.specs.Step.{lit, stepped, shotsOf, pictureA, pictureB}
+use Rattle.step.specs.Step.{lit, stepped, shotsOf, picturesAfter}
 use Rattle.ppu.specs.Numbers.{stepNumber, writeNumber, readNumber, vramNumber, oamNumber, colourNumber, bugNumber}
-use Rattle.ppu.specs.Calls.{done}
+use Rattle.ppu.specs.Calls.{bugRow}
 
--- the state and the lent memory
+-- the state and what is lent
 pub record World : Type 0 where
   pub state : State
-  pub vram : List ℕ
-  pub oam : List ℕ
-  pub a : List ℕ
-  pub b : List ℕ
+  pub tables : Tables
+  pub pictures : Pictures
 
 -- every public call but a start, with any arguments
 pub data Call : Type 0 where
@@ -39,126 +40,103 @@ pub data Call : Type 0 where
 
 -- the number that a call is given; asking for the shown picture has none
 abbrev pub number : Call → World → ℕ
-number (step n) w = stepNumber (w .state) (w .vram) (w .oam) (w .a) (w .b) n
-number (write address value) w = writeNumber (w .state) (w .a) (w .b) address
+number (step n) w = stepNumber (w .state) (w .tables) (w .pictures) n
+number (write address value) w = writeNumber (w .state) (w .pictures) address
 number (read address) w = readNumber (w .state) address
-number (vram address value) w = vramNumber (w .state) (w .vram)
-number (oam address value) w = oamNumber (w .oam) address
+number (vram address value) w = vramNumber (w .state) (w .tables .vram)
+number (oam address value) w = oamNumber (w .tables .oam) address
 number (colour flag) w = colourNumber (w .state)
-number bugWrite w = bugNumber (w .state) (w .oam)
-number bugRead w = bugNumber (w .state) (w .oam)
-number bugReadWrite w = bugNumber (w .state) (w .oam)
+number bugWrite w = bugNumber (w .state) (w .tables .oam)
+number bugRead w = bugNumber (w .state) (w .tables .oam)
+number bugReadWrite w = bugNumber (w .state) (w .tables .oam)
 number shown w = 0
-number (pick line height) w = pickNumber (w .oam) line height
+number (pick line tall) w = pickNumber (w .tables .oam) line tall
 
--- the row of a corruption
-abbrev pub rowNow : State → ℕ
-rowNow s = rowAt (modeOf (s .regs .stat)) (s .beam .cycle)
+-- what a call can do: a step of n cycles, a write of a value to a register, the colour flag, other tables in place, or nothing
+pub data Deed : Type 0 where
+  steps : ℕ → Deed
+  writes : ℕ → ℕ → Deed
+  colours : Bool → Deed
+  stores : Tables → Deed
+  nothing : Deed
 
--- the world with another state, another VRAM, another OAM
-abbrev pub withState : World → State → World
-withState w s = record { state = s; vram = w .vram; oam = w .oam; a = w .a; b = w .b }
+-- what an accepted call does, by the state and the tables that it finds: the pictures have no part in it
+abbrev pub deed : Call → State → Tables → Deed
+deed (step n) s t = steps n
+deed (write address value) s t = writes address value
+deed (read address) s t = nothing
+deed (vram address value) s t = stores (withVram t (vramWritten (t .vram) (s .regs .vbk) address value))
+deed (oam address value) s t = stores (withOam t (oamWritten (t .oam) address value))
+deed (colour flag) s t = colours flag
+deed bugWrite s t = stores (withOam t (writeCorrupted (t .oam) (bugRow s)))
+deed bugRead s t = stores (withOam t (readCorrupted (t .oam) (bugRow s)))
+deed bugReadWrite s t = stores (withOam t (readWriteCorrupted (t .oam) (bugRow s)))
+deed shown s t = nothing
+deed (pick line tall) s t = nothing
 
-abbrev pub withVram : World → List ℕ → World
-withVram w v = record { state = w .state; vram = v; oam = w .oam; a = w .a; b = w .b }
-
-abbrev pub withOam : World → List ℕ → World
-withOam w o = record { state = w .state; vram = w .vram; oam = o; a = w .a; b = w .b }
-
--- what an accepted call does to the world
-abbrev pub accepted : Call → World → World
-accepted (step n) w =
+-- what a deed makes of the world
+abbrev pub does : Deed → World → World
+does (steps n) w =
     record {
-      state = stepped n (w .vram) (w .oam) (w .state);
-      vram = w .vram;
-      oam = w .oam;
-      a = pictureA n (w .vram) (w .oam) (w .state) (w .a);
-      b = pictureB n (w .vram) (w .oam) (w .state) (w .b);
+      state = stepped n (w .tables) (w .state);
+      tables = w .tables;
+      pictures = picturesAfter n (w .tables) (w .state) (w .pictures);
     }
-accepted (write address value) w =
+does (writes address value) w =
     record {
       state = stateWritten (w .state) address (kept address value);
-      vram = w .vram;
-      oam = w .oam;
-      a = pictureWritten (w .state) address (kept address value) (w .a);
-      b = pictureWritten (w .state) address (kept address value) (w .b);
+      tables = w .tables;
+      pictures = picturesWritten (w .state) address (kept address value) (w .pictures);
     }
-accepted (read address) w = w
-accepted (vram address value) w = withVram w (vramWritten (w .vram) (w .state .regs .vbk) address value)
-accepted (oam address value) w = withOam w (oamWritten (w .oam) address value)
-accepted (colour flag) w = withState w (colourSet (w .state) flag)
-accepted bugWrite w = withOam w (writeCorrupted (w .oam) (rowNow (w .state)))
-accepted bugRead w = withOam w (readCorrupted (w .oam) (rowNow (w .state)))
-accepted bugReadWrite w = withOam w (readWriteCorrupted (w .oam) (rowNow (w .state)))
-accepted shown w = w
-accepted (pick line height) w = w
+does (colours flag) w = record { state = colourSet (w .state) flag; tables = w .tables; pictures = w .pictures }
+does (stores t) w = record { state = w .state; tables = t; pictures = w .pictures }
+does nothing w = w
 
--- one call: a refusal leaves the world as it was
+-- what the draws of a deed answer
+abbrev pub shotsBy : Deed → State → Tables → List Shot
+shotsBy (steps n) s t = shotsOf n t s
+shotsBy (writes address value) s t = []
+shotsBy (colours flag) s t = []
+shotsBy (stores other) s t = []
+shotsBy nothing s t = []
+
+-- whether a deed swaps: a step of a display that is on
+abbrev pub swapsBy : Deed → State → Bool
+swapsBy (steps n) s = lit s && swaps n (s .beam)
+swapsBy (writes address value) s = false
+swapsBy (colours flag) s = false
+swapsBy (stores other) s = false
+swapsBy nothing s = false
+
+-- whether a deed blanks: a write that switches the display off
+abbrev pub blanksBy : Deed → State → Bool
+blanksBy (steps n) s = false
+blanksBy (writes address value) s = blanks (s .regs) address (kept address value)
+blanksBy (colours flag) s = false
+blanksBy (stores other) s = false
+blanksBy nothing s = false
+
+-- one call: a refused one does nothing
+abbrev pub deedOf : Call → World → Deed
+deedOf c w = cond (done (number c w)) (deed c (w .state) (w .tables)) nothing
+
 abbrev pub perform : Call → World → World
-perform c w = cond (done (number c w)) (accepted c w) w
-
--- a run, the oldest call first
-unfoldable pub run : List Call → World → World
-run [] w = w
-run (c ∷ rest) w = run rest (perform c w)
-
--- the world after an accepted start, whatever the lent buffers held before
-abbrev pub freshWorld : Bool → Bool → World
-freshWorld dmg wanted =
-    record {
-      state = freshState dmg wanted;
-      vram = replicate 16384 0;
-      oam = replicate 160 0;
-      a = replicate pictureBytes 255;
-      b = replicate pictureBytes 255;
-    }
-
--- what the draws of a call answered
-abbrev pub shotsIn : Call → World → List Shot
-shotsIn (step n) w = shotsOf n (w .vram) (w .oam) (w .state)
-shotsIn (write address value) w = []
-shotsIn (read address) w = []
-shotsIn (vram address value) w = []
-shotsIn (oam address value) w = []
-shotsIn (colour flag) w = []
-shotsIn bugWrite w = []
-shotsIn bugRead w = []
-shotsIn bugReadWrite w = []
-shotsIn shown w = []
-shotsIn (pick line height) w = []
+perform c w = does (deedOf c w) w
 
 abbrev pub shotsFrom : Call → World → List Shot
-shotsFrom c w = cond (done (number c w)) (shotsIn c w) []
-
--- an accepted step that swaps; an accepted write that blanks
-abbrev pub swapsIn : Call → World → Bool
-swapsIn (step n) w = lit (w .state) && swaps n (w .state .beam)
-swapsIn (write address value) w = false
-swapsIn (read address) w = false
-swapsIn (vram address value) w = false
-swapsIn (oam address value) w = false
-swapsIn (colour flag) w = false
-swapsIn bugWrite w = false
-swapsIn bugRead w = false
-swapsIn bugReadWrite w = false
-swapsIn shown w = false
-swapsIn (pick line height) w = false
-
-abbrev pub blanksIn : Call → World → Bool
-blanksIn (step n) w = false
-blanksIn (write address value) w = blanks (w .state .regs) address (kept address value)
-blanksIn (read address) w = false
-blanksIn (vram address value) w = false
-blanksIn (oam address value) w = false
-blanksIn (colour flag) w = false
-blanksIn bugWrite w = false
-blanksIn bugRead w = false
-blanksIn bugReadWrite w = false
-blanksIn shown w = false
-blanksIn (pick line height) w = false
+shotsFrom c w = shotsBy (deedOf c w) (w .state) (w .tables)
 
 abbrev pub swapped : Call → World → Bool
-swapped c w = done (number c w) && swapsIn c w
+swapped c w = swapsBy (deedOf c w) (w .state)
 
 abbrev pub blanked : Call → World → Bool
-blanked c w = done (number c w) && blanksIn c w
+blanked c w = blanksBy (deedOf c w) (w .state)
+
+-- the world after an accepted start of a machine, whatever the lent buffers held before
+abbrev pub freshWorld : Machine → World
+freshWorld machine =
+    record {
+      state = freshState machine;
+      tables = tables (replicate vramBytes 0) (replicate oamBytes 0);
+      pictures = pictures (replicate pictureBytes 255) (replicate pictureBytes 255);
+    }

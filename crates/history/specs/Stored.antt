@@ -1,6 +1,6 @@
 -- The places that a run stores since the latest of its start, the last swap and the last blanking.
 use Prim.Native.Nat.{ℕ, zero, suc}
-use mathlib.Core.Bool.{Bool, cond, _||_}
+use mathlib.Core.Bool.{cond, _||_}
 use mathlib.Core.List.{List, [], _∷_, _++_, map}
 use Rattle.hardware.specs.Screen.{place}
 use Rattle.lcd.specs.Mix.{bytesOf}

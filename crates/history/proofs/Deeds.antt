@@ -1,0 +1,95 @@
+-- What is known of any call and of its deed, accepted or refused: the one proof of runs that goes call by call.
+use mathlib.Core.Path.{_≡_, refl, _∙_}
+use mathlib.Core.Bool.{Bool, true}
+use mathlib.Core.List.{List}
+use Prim.Native.Nat.{ℕ, _<_}
+use native.Mathlib.Omega.{arith}
+use borrow.Author.Tests.{eqb-true}
+use lib.ListN.{length, length-set}
+use Rattle.logic.proofs.Tests.{by-test, clash}
+use Rattle.refusals.specs.Ladder.{own, done}
+use Rattle.refusals.proofs.Ladder.{Isnt, lowest-none, never-2, own-none, own-isnt}
+use Rattle.hardware.specs.Tables.{Tables, TablesSized, withOam}
+use Rattle.sprite.specs.Pick.{pickable, pickNumber}
+use Rattle.state.specs.declared.State.{State}
+use Rattle.order.specs.Fine.{Fine}
+use Rattle.order.proofs.Clauses.{ordered}
+use Rattle.registers.specs.Write.{readable}
+use Rattle.oam_bug.proofs.Rows.{length-write, length-read, length-read-write}
+use Rattle.ppu.specs.Numbers.{paced, listed, inOam, timely}
+use Rattle.ppu.specs.Calls.{bugRow}
+use Rattle.history.specs.Run as run
+use Rattle.history.specs.Run.{World, Call, step, write, read, colour, bugWrite, bugRead, bugReadWrite, shown, pick, number}
+use Rattle.history.specs.Run.{Deed, steps, writes, colours, stores, nothing, deed, deedOf, swapsBy, swapped}
+
+-- a step is paced, and tables put in place have their sizes
+abbrev pub Lawful : Deed → State → Type 0
+Lawful (steps n) s = paced (s .beam .cycle) n ≡ true
+Lawful (writes address value) s = Unit {0}
+Lawful (colours flag) s = Unit {0}
+Lawful (stores t) s = TablesSized t
+Lawful nothing s = Unit {0}
+
+-- of a call: its deed is lawful where it is accepted, and it is not refused as out of order
+record Known (c : Call) (w : World) : Type 0 where
+  accepted : number c w ≡ 0 → Lawful (deed c (w .state) (w .tables)) (w .state)
+  never2 : number c w ≡ 2 → ⊥
+
+pub step-paced : (n : ℕ) (w : World) → number (step n) w ≡ 0 → paced (w .state .beam .cycle) n ≡ true
+step-paced n w e = own-none (paced (w .state .beam .cycle) n) (omega arith) (lowest-none _ _ e .own)
+
+-- an own number over 2 is not 2
+other : (passed : Bool) {n : ℕ} → 2 < n → Isnt 2 (own passed n)
+other passed h = own-isnt 2 passed (omega arith) (λ e. omega arith)
+
+module _ (w : World) (h : TablesSized (w .tables)) (f : Fine (w .state)) where
+  -- a call that changes OAM alone, at its own test
+  on-oam : (oam : List ℕ) → length oam ≡ length (w .tables .oam) → TablesSized (withOam (w .tables) oam)
+  on-oam oam e = record { vram = h .vram; oam = e ∙ h .oam }
+
+  known : (c : Call) → Known c w
+  unfolding pickNumber
+  known (step n) =
+      record { accepted = step-paced n w; never2 = never-2 _ _ (ordered f) (other (paced (w .state .beam .cycle) n) (omega arith)) }
+  known (write address value) = record { accepted = λ e. tt; never2 = never-2 _ _ (ordered f) (other (listed address) (omega arith)) }
+  known (read address) = record { accepted = λ e. tt; never2 = never-2 _ _ (ordered f) (other (readable address) (omega arith)) }
+  known (run.vram address value) =
+      record {
+        accepted = λ e. record { vram = length-set (w .tables .vram) _ value ∙ h .vram; oam = h .oam };
+        never2 = never-2 _ _ (ordered f) (λ e. omega arith);
+      }
+  known (run.oam address value) =
+      record {
+        accepted = λ e. on-oam _ (length-set (w .tables .oam) _ value);
+        never2 = never-2 _ _ refl (other (inOam address) (omega arith));
+      }
+  known (colour flag) = record { accepted = λ e. tt; never2 = never-2 _ _ (ordered f) (λ e. omega arith) }
+  known bugWrite =
+      record {
+        accepted = λ e. on-oam _ (length-write (w .tables .oam) (bugRow (w .state)));
+        never2 = never-2 _ _ (ordered f) (other (timely (w .state)) (omega arith));
+      }
+  known bugRead =
+      record {
+        accepted = λ e. on-oam _ (length-read (w .tables .oam) (bugRow (w .state)));
+        never2 = never-2 _ _ (ordered f) (other (timely (w .state)) (omega arith));
+      }
+  known bugReadWrite =
+      record {
+        accepted = λ e. on-oam _ (length-read-write (w .tables .oam) (bugRow (w .state)));
+        never2 = never-2 _ _ (ordered f) (other (timely (w .state)) (omega arith));
+      }
+  known shown = record { accepted = λ e. tt; never2 = λ e. omega arith }
+  known (pick line tall) = record { accepted = λ e. tt; never2 = never-2 _ _ refl (other (pickable line tall) (omega arith)) }
+
+  pub lawful : (c : Call) → Lawful (deedOf c w) (w .state)
+  lawful c = by-test (λ (d : Deed). Lawful d (w .state)) (done (number c w)) (λ e. known c .accepted (eqb-true _ _ e)) (λ e. tt)
+
+  pub not-2 : (c : Call) → number c w ≡ 2 → ⊥
+  not-2 c = known c .never2
+
+-- a call that swaps was accepted
+pub swap-accepted : (c : Call) (w : World) → swapped c w ≡ true → number c w ≡ 0
+swap-accepted c w =
+    by-test (λ (d : Deed). swapsBy d (w .state) ≡ true → number c w ≡ 0) (done (number c w)) (λ e s. eqb-true _ _ e)
+    (λ e s. absurd (clash s refl))
