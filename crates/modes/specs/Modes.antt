@@ -7,8 +7,8 @@ use Rattle.wrap.specs.Wrap.{bitAt}
 use Rattle.hardware.specs.Screen.{height, lastLine}
 use Rattle.sprite.specs.Pick.{selection}
 use Rattle.pixel.specs.Sprites.{tallOf}
-use Rattle.state.specs.With.{modeOf, withMode, withCoincidence, withRegisters, withSelection, withPipe, withBeam, withStat, withLy}
-use Rattle.state.specs.With.{withDelay, withFetcher, withWindowRow, withDiscard, withEnd, withLevel}
+use Rattle.state.specs.With.{modeOf, withMode, withCoincidence, withRegisters, withSelection, withPipe, withBeam, withStat}
+use Rattle.state.specs.With.{withLy, withDelay, withFetcher, withWindowRow, withDiscard, withEnd, withLevel}
 use Rattle.state.specs.declared.Pipe.{Pipe}
 use Rattle.state.specs.declared.Beam.{Beam}
 use Rattle.state.specs.declared.State.{State}

@@ -1,6 +1,7 @@
 // Whether a state is in order: 01's sentence, clause by clause.
 ghost use mathlib.Core.Path.{_≡_};
-ghost use Rattle.order.specs.Order.{registersOrder, palettesOrder, rowOrder, fetcherOrder, bgOrder, spriteOrder, selectionOrder, beamOrder, modeOrder, inOrder, Judged};
+ghost use Rattle.order.specs.Order.{registersOrder, palettesOrder, rowOrder, fetcherOrder, bgOrder, spriteOrder};
+ghost use Rattle.order.specs.Order.{selectionOrder, beamOrder, modeOrder, inOrder, Judged};
 use fifo::BgFifo;
 use fifo::SpriteFifo;
 use hardware::Machine;
@@ -12,6 +13,7 @@ use state::Registers;
 use state::State;
 use state::Waiting;
 
+// LY, the bank and STAT.
 pub fn registers_in_order(r: Registers) -> bool
     ensures { λ b. ⌜ b ≡ registersOrder r ⌝ }
 {
@@ -24,6 +26,7 @@ pub fn registers_in_order(r: Registers) -> bool
     r.stat < 128
 }
 
+// The palette indexes.
 pub fn palettes_in_order(p: Palettes) -> bool
     ensures { λ b. ⌜ b ≡ palettesOrder p ⌝ }
 {
@@ -47,6 +50,7 @@ pub fn row_in_order(row: [u8; 8]) -> bool
     true
 }
 
+// The fetch delay, and the colours of a row that waits.
 pub fn fetcher_in_order(f: Fetcher) -> bool
     ensures { λ b. ⌜ b ≡ fetcherOrder f ⌝ }
 {
@@ -63,6 +67,7 @@ pub fn fetcher_in_order(f: Fetcher) -> bool
     }
 }
 
+// The background queue: its length and its pixels.
 pub fn bg_in_order(q: BgFifo) -> bool
     ensures { λ b. ⌜ b ≡ bgOrder q ⌝ }
 {
@@ -84,6 +89,7 @@ pub fn bg_in_order(q: BgFifo) -> bool
     true
 }
 
+// The sprite queue: its length and its pixels.
 pub fn sprite_in_order(q: SpriteFifo) -> bool
     ensures { λ b. ⌜ b ≡ spriteOrder q ⌝ }
 {
@@ -111,6 +117,7 @@ pub fn sprite_in_order(q: SpriteFifo) -> bool
     true
 }
 
+// How many are selected, and their indexes.
 pub fn selection_in_order(s: Selection) -> bool
     ensures { λ b. ⌜ b ≡ selectionOrder s ⌝ }
 {
@@ -130,6 +137,7 @@ pub fn selection_in_order(s: Selection) -> bool
     true
 }
 
+// Cycle, line, LCD x and the picture shown.
 pub fn beam_in_order(b: Beam) -> bool
     ensures { λ r. ⌜ r ≡ beamOrder b ⌝ }
 {

@@ -1,5 +1,5 @@
--- The sizes of the arrays that a state holds: eight colours of a row, sixteen and eight slots of the queues, ten of the selection,
--- 64 bytes of a palette set. A state that a program holds has them by its type.
+-- The sizes of the arrays that a state holds: eight colours of a row, sixteen and eight slots of the queues, ten slots of the
+-- selection, 64 bytes of a palette set. A state that a program holds has them by its type.
 use mathlib.Core.Path.{_≡_}
 use lib.ListN.{length}
 use Rattle.state.specs.declared.State.{State}

@@ -1,5 +1,5 @@
--- A state with one group put in place of what it had, a group with one field, and the mode that STAT holds. Every rule that changes
--- a part of the state is said with these.
+-- A state with one group put in place of what it had, a group with one field, and the mode that STAT holds. Every rule that
+-- changes a part of the state is said with these.
 use Prim.Native.Nat.{ℕ, _+_, _*_, _/_, _%_}
 use mathlib.Core.Bool.{Bool, cond}
 use Rattle.sprite.specs.declared.Selection.{Selection}

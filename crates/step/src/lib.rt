@@ -45,8 +45,8 @@ fn draw_hidden(vram: &[u8], s: State, a: &mut [u8], b: &mut [u8], cycles: u8) ->
 // The step up to the point where the cycle advances.
 fn settle(s: State, vram: &[u8], oam: &[u8], a: &mut [u8], b: &mut [u8], cycles: u8) -> State
     requires { ⌜ Steppable (tables (now vram) (now oam)) (pictures (now a) (now b)) s ⌝ }
-    ensures { λ n. ⌜ Settled cycles (tables (now (vram .entry)) (now (oam .entry))) s (pictures (now (a .entry)) (now (b .entry))) n
-        (pictures (now (a .exit)) (now (b .exit))) ⌝ }
+    ensures { λ n. ⌜ Settled cycles (tables (now (vram .entry)) (now (oam .entry))) s
+        (pictures (now (a .entry)) (now (b .entry))) n (pictures (now (a .exit)) (now (b .exit))) ⌝ }
 {
     let held = modes::enter_mode(s);
     let ready = modes::search(oam, held);
@@ -116,8 +116,8 @@ fn off_report(s: State) -> Report
 // One step of a state in order, by a number of cycles that does not pass the end of a line.
 pub fn step(s: State, vram: &[u8], oam: &[u8], a: &mut [u8], b: &mut [u8], cycles: u8) -> Stepped
     requires { ⌜ Steppable (tables (now vram) (now oam)) (pictures (now a) (now b)) s × (s .beam .cycle + cycles ≤ lineCycles) ⌝ }
-    ensures { λ r. ⌜ StepTaken cycles (tables (now (vram .entry)) (now (oam .entry))) s (pictures (now (a .entry)) (now (b .entry)))
-        (r .report) (r .state) (pictures (now (a .exit)) (now (b .exit))) ⌝ }
+    ensures { λ r. ⌜ StepTaken cycles (tables (now (vram .entry)) (now (oam .entry))) s
+        (pictures (now (a .entry)) (now (b .entry))) (r .report) (r .state) (pictures (now (a .exit)) (now (b .exit))) ⌝ }
 {
     if !wrap::bit(s.regs.lcdc, 7) {
         let report = off_report(s);

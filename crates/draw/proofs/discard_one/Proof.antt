@@ -13,7 +13,9 @@ sub-discard : tie.Need-sub-discard
 sub-discard c = search needs
 
 returns : tie.Need-returns
-returns c = rw (c .before .before .before .pop2 .ensures, c .before .before .before .before .pop .ensures)
+returns c =
+    let sprite = c .before .before in
+    rw (sprite .before .pop2 .ensures, sprite .before .before .pop .ensures)
 
 pub discard-one-spec : {M : Type 1} → statement M
 discard-one-spec = tie.close (tie.spec pop-requires pop-requires-2 sub-discard returns)

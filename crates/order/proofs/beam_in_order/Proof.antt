@@ -12,12 +12,15 @@ returns c = rw (ne-eqb _ _ (c .if1 .taken))
 
 returns-2 : tie.Need-returns-2
 returns-2 c =
-    let b = c .before .before .before .before .args .b in
+    let even = c .before .before in
+    let b = even .before .before .args .b in
     rw (eq-eqb (b .cycle % 2) 0 (omega arith), le-ltb (b .cycle) lineCycles (omega arith))
 
 returns-3 : tie.Need-returns-3
 returns-3 c =
-    let b = c .before .before .before .before .before .before .args .b in
+    let below = c .before .before in
+    let even = below .before .before in
+    let b = even .before .before .args .b in
     rw (eq-eqb (b .cycle % 2) 0 (omega arith), lt-ltb (b .cycle) lineCycles (omega arith), le-ltb (b .line) frameLines (omega arith))
 
 cast-if4 : tie.Need-cast-if4
@@ -25,13 +28,20 @@ cast-if4 c = search needs
 
 returns-4 : tie.Need-returns-4
 returns-4 c =
-    let b = c .before .before .before .before .before .before .before .before .args .b in
+    let framed = c .before .before in
+    let below = framed .before .before in
+    let even = below .before .before in
+    let b = even .before .before .args .b in
     rw
     (eq-eqb (b .cycle % 2) 0 (omega arith), lt-ltb (b .cycle) lineCycles (omega arith), lt-ltb (b .line) frameLines (omega arith), le-ltb (b .x) width (omega arith))
 
 returns-5 : tie.Need-returns-5
 returns-5 c =
-    let b = c .before .before .before .before .before .before .before .before .before .args .b in
+    let framed = c .before .before in
+    let below = framed .before .before in
+    let even = below .before .before in
+    let start = even .before in
+    let b = start .before .before .args .b in
     rw
     (eq-eqb (b .cycle % 2) 0 (omega arith), lt-ltb (b .cycle) lineCycles (omega arith), lt-ltb (b .line) frameLines (omega arith), lt-ltb (b .x) width (omega arith))
 

@@ -38,8 +38,11 @@ array-copy-out-pixel c = omega arith
 
 returns-2 : tie.Need-returns-2 Inv-loop μ-loop
 returns-2 c =
-    let i = c .before .before .before in
-    let f = i .before .before .before .before .before in
+    let copied = c .before in
+    let i = copied .before .before in
+    let loop = i .before .before in
+    let entry = loop .before .before in
+    let f = entry .before in
     rw (le-leb _ _ (f .if1 .left)) (ring-fails 16 bgBlank _ _ _ (i .loop-test .taken) (lt-leb _ _ (c .if2 .taken)) (i .before .loop .inv))
 
 add-k : tie.Need-add-k Inv-loop μ-loop
@@ -50,12 +53,15 @@ loop-less c = omega arith
 
 loop-again : tie.Need-loop-again Inv-loop μ-loop
 loop-again c =
-    let i = c .before .before .before in
+    let copied = c .before in
+    let i = copied .before .before in
     ring-more 16 bgBlank _ _ _ (i .loop-test .taken) (le-leb _ _ (c .if2 .left)) (i .before .loop .inv)
 
 returns-3 : tie.Need-returns-3 Inv-loop μ-loop
 returns-3 c =
-    let f = c .before .before .before .before .before in
+    let loop = c .before .before in
+    let entry = loop .before .before in
+    let f = entry .before in
     rw (le-leb _ _ (f .if1 .left)) (ring-end 16 bgBlank _ _ _ (c .loop-test .left) (c .before .loop .inv))
 
 pub bg-in-order-spec : {M : Type 1} → statement M

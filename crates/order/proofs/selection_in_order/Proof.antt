@@ -22,7 +22,8 @@ cast-count c = omega arith
 
 loop-holds : tie.Need-loop-holds Inv-loop μ-loop
 loop-holds c =
-    let ten = simp length-map at (c .before .before .before .before .good .0 .1 .1 .1 .0 .1 .0 .1) in
+    let copied = c .before .before in
+    let ten = simp length-map at (copied .before .before .good .0 .1 .1 .1 .0 .1 .0 .1) in
     (omega (arith, ten), left-start)
 
 mul-slot : tie.Need-mul-slot Inv-loop μ-loop
@@ -33,9 +34,11 @@ array-copy-out-slot c = omega arith
 
 returns-2 : tie.Need-returns-2 Inv-loop μ-loop
 returns-2 c =
-    let i = c .before .before .before in
+    let copied = c .before in
+    let i = copied .before .before in
     let v = i .before .loop .inv in
-    rw (le-leb _ _ (i .before .before .before .before .if1 .left))
+    let loop = i .before .before in
+    rw (le-leb _ _ (loop .before .before .if1 .left))
     (taken-fails _ _ (v .0) _ (i .loop-test .taken) (lt-leb _ _ (c .if2 .taken)) (v .1))
 
 add-k : tie.Need-add-k Inv-loop μ-loop
@@ -46,14 +49,16 @@ loop-less c = omega arith
 
 loop-again : tie.Need-loop-again Inv-loop μ-loop
 loop-again c =
-    let i = c .before .before .before in
+    let copied = c .before in
+    let i = copied .before .before in
     let v = i .before .loop .inv in
     (v .0, taken-more _ _ (v .0) _ (i .loop-test .taken) (le-leb _ _ (c .if2 .left)) (v .1))
 
 returns-3 : tie.Need-returns-3 Inv-loop μ-loop
 returns-3 c =
     let v = c .before .loop .inv in
-    rw (le-leb _ _ (c .before .before .before .before .if1 .left)) (taken-end _ _ (v .0) (c .loop-test .left) (v .1))
+    let loop = c .before .before in
+    rw (le-leb _ _ (loop .before .before .if1 .left)) (taken-end _ _ (v .0) (c .loop-test .left) (v .1))
 
 pub selection-in-order-spec : {M : Type 1} → statement M
 selection-in-order-spec =

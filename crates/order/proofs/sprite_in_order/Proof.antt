@@ -39,16 +39,22 @@ array-copy-out-pixel c = omega arith
 
 returns-2 : tie.Need-returns-2 Inv-loop μ-loop
 returns-2 c =
-    let i = c .before .before .before in
-    let f = i .before .before .before .before .before in
+    let copied = c .before in
+    let i = copied .before .before in
+    let loop = i .before .before in
+    let entry = loop .before .before in
+    let f = entry .before in
     rw (le-leb _ _ (f .if1 .left))
     (ring-fails 8 spriteBlank _ _ _ (i .loop-test .taken) (rw (lt-leb _ _ (c .if2 .taken))) (i .before .loop .inv))
 
 returns-3 : tie.Need-returns-3 Inv-loop μ-loop
 returns-3 c =
     let p = c .before .before in
-    let i = p .before .before .before in
-    let f = i .before .before .before .before .before in
+    let copied = p .before in
+    let i = copied .before .before in
+    let loop = i .before .before in
+    let entry = loop .before .before in
+    let f = entry .before in
     rw (le-leb _ _ (f .if1 .left))
     (ring-fails 8 spriteBlank _ _ _ (i .loop-test .taken) (rw (le-leb _ _ (p .if2 .left), lt-leb _ _ (c .if3 .taken))) (i .before .loop .inv))
 
@@ -56,8 +62,11 @@ returns-4 : tie.Need-returns-4 Inv-loop μ-loop
 returns-4 c =
     let q = c .before .before in
     let p = q .before .before in
-    let i = p .before .before .before in
-    let f = i .before .before .before .before .before in
+    let copied = p .before in
+    let i = copied .before .before in
+    let loop = i .before .before in
+    let entry = loop .before .before in
+    let f = entry .before in
     let a = f .before .before .args .q in
     let pixel = getD (a .pixels) ((a .head + i .before .loop .k) % 8) spriteBlank in
     rw (le-leb _ _ (f .if1 .left))
@@ -75,8 +84,12 @@ loop-again : tie.Need-loop-again Inv-loop μ-loop
 loop-again c =
     let q = c .before .before in
     let p = q .before .before in
-    let i = p .before .before .before in
-    let a = i .before .before .before .before .before .before .before .args .q in
+    let copied = p .before in
+    let i = copied .before .before in
+    let loop = i .before .before in
+    let entry = loop .before .before in
+    let start = entry .before .before in
+    let a = start .before .args .q in
     let pixel = getD (a .pixels) ((a .head + i .before .loop .k) % 8) spriteBlank in
     ring-more 8 spriteBlank _ _ _ (i .loop-test .taken)
     (rw (le-leb _ _ (p .if2 .left), le-leb _ _ (q .if3 .left)) (le-leb (pixel .index) 39 (omega arith)))
@@ -84,7 +97,9 @@ loop-again c =
 
 returns-5 : tie.Need-returns-5 Inv-loop μ-loop
 returns-5 c =
-    let f = c .before .before .before .before .before in
+    let loop = c .before .before in
+    let entry = loop .before .before in
+    let f = entry .before in
     rw (le-leb _ _ (f .if1 .left)) (ring-end 8 spriteBlank _ _ _ (c .loop-test .left) (c .before .loop .inv))
 
 pub sprite-in-order-spec : {M : Type 1} → statement M
