@@ -1,6 +1,5 @@
 -- A run of draws: in mode 3 one draw and the others, else none; each answers a place on the screen or nothing.
 use mathlib.Core.Path.{_≡_, refl}
-use mathlib.Core.Bool.{Bool}
 use mathlib.Core.List.{List}
 use Prim.Native.Nat.{ℕ, zero, suc, _<_}
 use borrow.Author.Tests.{eq-eqb, ne-eqb, eqb-true, eqb-false}

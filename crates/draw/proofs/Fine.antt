@@ -1,11 +1,11 @@
 -- The parts of a draw keep a state in order, and what is popped has colour numbers.
 use mathlib.Core.Path.{_≡_}
-use mathlib.Core.Bool.{Bool, true}
+use mathlib.Core.Bool.{Bool}
 use mathlib.Core.List.{List}
 use Prim.Native.Nat.{ℕ, _+_, _≤_, _<_}
 use native.Mathlib.Omega.{arith}
 use borrow.Author.Tests.{leb-true}
-use Rattle.hardware.specs.Screen.{width, height}
+use Rattle.hardware.specs.Screen.{width}
 use Rattle.fifo.specs.Background.{bgFront, bgRest}
 use Rattle.fifo.specs.Sprites.{spritePopped}
 use Rattle.fifo.specs.declared.BgFifo.{BgFifo}
@@ -14,7 +14,7 @@ use Rattle.fifo.proofs.Background.{bg-popped-every}
 use Rattle.fifo.proofs.Sprites.{sprite-popped-every, sprite-popped-len, sprite-popped-slots}
 use Rattle.pixel.proofs.Added.{sprites-fine}
 use Rattle.pipe.proofs.Fine.{emptied-fine, windowed-fine, fetched-fine, fed-fine}
-use Rattle.state.specs.With.{withPipe, modeOf}
+use Rattle.state.specs.With.{withPipe}
 use Rattle.state.specs.declared.Pipe.{Pipe}
 use Rattle.state.specs.declared.State.{State}
 use Rattle.order.specs.Order.{bgPixelOrder, spritePixelOrder}

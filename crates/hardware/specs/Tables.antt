@@ -1,5 +1,5 @@
 -- Pan Docs, "Memory map": the two tables that are lent, VRAM and OAM.
-use Prim.Native.Nat.{ℕ, _*_}
+use Prim.Native.Nat.{ℕ}
 use mathlib.Core.Path.{_≡_}
 use mathlib.Core.Bool.{Bool, _&&_}
 use mathlib.Core.List.{List}

@@ -9,7 +9,7 @@ use lib.ListN.{length, length-set}
 use Rattle.logic.proofs.Tests.{by-test, clash}
 use Rattle.refusals.specs.Ladder.{own, done}
 use Rattle.refusals.proofs.Ladder.{Isnt, lowest-none, never-2, own-none, own-isnt}
-use Rattle.hardware.specs.Tables.{Tables, TablesSized, withOam}
+use Rattle.hardware.specs.Tables.{TablesSized, withOam}
 use Rattle.sprite.specs.Pick.{pickable, pickNumber}
 use Rattle.state.specs.declared.State.{State}
 use Rattle.order.specs.Fine.{Fine}

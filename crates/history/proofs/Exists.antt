@@ -1,6 +1,6 @@
 -- Frames exist: steps of 4 move the beam by 4 until the swap.
 use mathlib.Core.Path.{_≡_, refl, sym, ap, ap₂, _∙_}
-use mathlib.Core.Bool.{Bool, true, false, true≢false, not, cond, _&&_}
+use mathlib.Core.Bool.{Bool, true, false, true≢false, not, _&&_}
 use Prim.Native.Nat.{ℕ, zero, suc, _+_, _*_, _%_, _<_}
 use native.Mathlib.Omega.{arith}
 use borrow.Author.Tests.{eqb-true, eq-eqb}
@@ -19,7 +19,7 @@ use Rattle.beam.specs.Advance.{ends, swaps, advanced}
 use Rattle.beam.proofs.Ways.{advanced-cases}
 use Rattle.step.specs.Step.{lit, settled, stepped}
 use Rattle.step.proofs.Keeps.{settled-fine, settled-same}
-use Rattle.history.specs.Run.{World, step, number, freshWorld, swapped, blanked}
+use Rattle.history.specs.Run.{step, number, freshWorld, swapped, blanked}
 use Rattle.history.specs.Stored.{Trace, go, trace, begun}
 use Rattle.history.specs.Demand.{AtOrigin, staysOn, staysHidden, Reaches, Reached, Begins, Begun}
 use Rattle.history.proofs.Kept.{lent-fits}

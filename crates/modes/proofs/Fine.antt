@@ -2,12 +2,12 @@
 use mathlib.Core.Path.{_≡_, sym, _∙_}
 use mathlib.Core.Bool.{Bool, true, false}
 use mathlib.Core.List.{List}
-use Prim.Native.Nat.{ℕ, _≤_, _<_}
+use Prim.Native.Nat.{ℕ, _<_}
 use native.Mathlib.Omega.{arith}
 use Rattle.logic.proofs.Tests.{by-test}
 use Rattle.hardware.specs.Screen.{height, frameLines, lastLine}
 use Rattle.pixel.specs.Sprites.{tallOf}
-use Rattle.state.specs.With.{withMode, withCoincidence, modeOf}
+use Rattle.state.specs.With.{withCoincidence, modeOf}
 use Rattle.state.specs.declared.Pipe.{Pipe}
 use Rattle.state.specs.declared.State.{State}
 use Rattle.order.specs.Fine.{PipeFine, Fine}

@@ -7,7 +7,6 @@ use mathlib.Core.List.{List}
 use lib.Dec.{eqb, ltb, leb}
 use lib.ListN.{take}
 use Rattle.hardware.specs.Screen.{width, height, lineCycles, frameLines}
-use Rattle.colors.specs.declared.PaletteSet.{PaletteSet}
 use Rattle.sprite.specs.declared.Selection.{Selection}
 use Rattle.sprite.specs.declared.SelectedSprite.{SelectedSprite}
 use Rattle.logic.specs.Every.{every}

@@ -2,7 +2,7 @@
 use mathlib.Core.Path.{_≡_, refl, _∙_}
 use mathlib.Core.Bool.{Bool, true}
 use mathlib.Core.List.{List}
-use Prim.Native.Nat.{ℕ, _+_, _-_, _≤_}
+use Prim.Native.Nat.{ℕ, _-_, _≤_}
 use native.Mathlib.Omega.{arith}
 use borrow.Author.Tests.{le-leb}
 use lib.ListN.{getD}
@@ -18,7 +18,6 @@ use Rattle.fifo.proofs.Background.{bg-cleared-every, bg-pushed-every, bg-pushed
 use Rattle.fifo.proofs.Sprites.{sprite-cleared-every}
 use Rattle.tiles.proofs.Colours.{Colours, fetched-colours}
 use Rattle.state.specs.declared.Registers.{Registers}
-use Rattle.state.specs.declared.Waiting.the-variants.{Row}
 use Rattle.state.specs.declared.Pipe.{Pipe}
 use Rattle.order.specs.Order.{colourOrder, rowOrder, bgPixelOrder, spritePixelOrder}
 use Rattle.order.specs.Fine.{BgFine, SpriteFine, PipeFine}

@@ -1,6 +1,6 @@
 -- 01, "One draw", and Pan Docs, "Pixel FIFO": the fetcher, and the row that goes into the background queue.
 use Prim.Native.Nat.{ℕ, _-_}
-use mathlib.Core.Bool.{Bool, cond}
+use mathlib.Core.Bool.{cond}
 use mathlib.Core.List.{List}
 use lib.Dec.{eqb, leb}
 use Rattle.wrap.specs.Wrap.{up}

@@ -1,5 +1,5 @@
 -- What the parts of a step keep: the state stays in order up to the point where the cycle advances, and the beam stays.
-use mathlib.Core.Path.{_≡_, refl}
+use mathlib.Core.Path.{refl}
 use mathlib.Core.List.{List}
 use Prim.Native.Nat.{ℕ}
 use Rattle.hardware.specs.Tables.{Tables}

@@ -1,5 +1,5 @@
 -- `burst::draw_all` meets its contract. The loop's invariant: what is left of the run goes on from the state and the picture reached.
-use mathlib.Core.Path.{_≡_, refl, sym, ap, _∙_}
+use mathlib.Core.Path.{_≡_, sym, ap, _∙_}
 use mathlib.Core.List.{List}
 use Prim.Native.Nat.{ℕ, suc, _+_, _-_, _≤_, _<_}
 use native.Mathlib.Omega.{arith}

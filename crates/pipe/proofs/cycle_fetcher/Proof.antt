@@ -1,8 +1,7 @@
 -- `pipe::cycle_fetcher` meets its contract.
 use Prim.Native.Nat.{_-_}
 use native.Mathlib.Omega.{arith}
-use mathlib.Core.Path.{_≡_, sym, _∙_}
-use borrow.Author.Tests.{eq-eqb, ne-eqb, lt-ltb, le-ltb, le-leb, lt-leb, not-true, not-false}
+use borrow.Author.Tests.{eq-eqb, ne-eqb}
 use Rattle.pipe.specs.Fetching.{fetchedPipe}
 use borrow.Author.Needs.{needs}
 use Rattle.pipe.proofs.cycle_fetcher.Statement.{statement}

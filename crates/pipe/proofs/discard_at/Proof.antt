@@ -1,5 +1,5 @@
 -- `pipe::discard_at` meets its contract.
-use borrow.Author.Tests.{eq-eqb, ne-eqb, lt-ltb, le-ltb, le-leb, lt-leb, not-true, not-false}
+use borrow.Author.Tests.{eq-eqb, ne-eqb, lt-ltb, le-ltb}
 use borrow.Author.Needs.{needs}
 use Rattle.pipe.proofs.discard_at.Statement.{statement}
 use Rattle.pipe.proofs.discard_at.Tie as tie

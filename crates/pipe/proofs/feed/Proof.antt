@@ -1,6 +1,5 @@
 -- `pipe::feed` meets its contract.
-use mathlib.Core.Path.{_≡_, sym, _∙_}
-use borrow.Author.Tests.{eq-eqb, ne-eqb, lt-ltb, le-ltb, le-leb, lt-leb, not-true, not-false}
+use borrow.Author.Tests.{le-leb, lt-leb}
 use Rattle.pipe.specs.Fetching.{fed}
 use borrow.Author.Needs.{needs}
 use Rattle.pipe.proofs.feed.Statement.{statement}

@@ -1,6 +1,6 @@
 -- `pipe::is_reached` meets its contract.
-use mathlib.Core.Path.{_≡_, sym, _∙_}
-use borrow.Author.Tests.{eq-eqb, ne-eqb, lt-ltb, le-ltb, le-leb, lt-leb, not-true, not-false}
+use mathlib.Core.Path.{_∙_}
+use borrow.Author.Tests.{eq-eqb, ne-eqb}
 use borrow.Author.Needs.{needs}
 use Rattle.pipe.proofs.is_reached.Statement.{statement}
 use Rattle.pipe.proofs.is_reached.Tie as tie

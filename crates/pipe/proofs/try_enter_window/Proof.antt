@@ -1,5 +1,5 @@
 -- `pipe::try_enter_window` meets its contract.
-use mathlib.Core.Path.{_≡_, sym, _∙_}
+use mathlib.Core.Path.{sym, _∙_}
 use Rattle.pipe.specs.Window.{windowed}
 use borrow.Author.Needs.{needs}
 use Rattle.pipe.proofs.try_enter_window.Statement.{statement}
