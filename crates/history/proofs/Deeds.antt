@@ -18,13 +18,14 @@ use Rattle.registers.specs.Write.{readable}
 use Rattle.oam_bug.proofs.Rows.{length-write, length-read, length-read-write}
 use Rattle.ppu.specs.Numbers.{paced, listed, inOam, timely}
 use Rattle.ppu.specs.Calls.{bugRow}
+use Rattle.ppu.proofs.Pace.{Pace, pace}
 use Rattle.history.specs.Run as run
 use Rattle.history.specs.Run.{World, Call, step, write, read, colour, bugWrite, bugRead, bugReadWrite, shown, pick, number}
 use Rattle.history.specs.Run.{Deed, steps, writes, colours, stores, nothing, deed, deedOf, swapsBy, swapped}
 
 -- a step is paced, and tables put in place have their sizes
 abbrev pub Lawful : Deed → State → Type 0
-Lawful (steps n) s = paced (s .beam .cycle) n ≡ true
+Lawful (steps n) s = Pace (s .beam .cycle) n
 Lawful (writes address value) s = Unit {0}
 Lawful (colours flag) s = Unit {0}
 Lawful (stores t) s = TablesSized t
@@ -35,8 +36,8 @@ record Known (c : Call) (w : World) : Type 0 where
   accepted : number c w ≡ 0 → Lawful (deed c (w .state) (w .tables)) (w .state)
   never2 : number c w ≡ 2 → ⊥
 
-pub step-paced : (n : ℕ) (w : World) → number (step n) w ≡ 0 → paced (w .state .beam .cycle) n ≡ true
-step-paced n w e = own-none (paced (w .state .beam .cycle) n) (omega arith) (lowest-none _ _ e .own)
+pub step-paced : (n : ℕ) (w : World) → number (step n) w ≡ 0 → Pace (w .state .beam .cycle) n
+step-paced n w e = pace _ n (own-none (paced (w .state .beam .cycle) n) (omega arith) (lowest-none _ _ e .own))
 
 -- an own number over 2 is not 2
 other : (passed : Bool) {n : ℕ} → 2 < n → Isnt 2 (own passed n)

@@ -15,7 +15,7 @@ use Rattle.state.specs.declared.State.{State}
 use Rattle.order.specs.Fine.{Fine}
 use Rattle.beam.specs.Advance.{swaps, whole, advanced}
 use Rattle.step.specs.Step.{lit, working, settled, report, reportOf, offReport, shotsOf}
-use Rattle.ppu.specs.Numbers.{paced}
+use Rattle.ppu.proofs.Pace.{Pace}
 use Rattle.bound.proofs.Potential.{left-positive}
 use Rattle.history.specs.Run.{World, Call, step, number, freshWorld, swapped, blanked}
 use Rattle.history.specs.Stored.{Stored, storedBy, Trace, through, trace, begun, numbers}
@@ -121,7 +121,7 @@ module _ {full : Bool} {t : Trace} (i : Inv full t) (n : ℕ) (e : swapped (step
   unfolding shotsOf
   through-now = rw (accepted-now, swap .0) refl
 
-  pub pace-now : paced (t .world .state .beam .cycle) n ≡ true
+  pub pace-now : Pace (t .world .state .beam .cycle) n
   pace-now = step-paced n (t .world) accepted-now
 
   now-rising : Rising 0 places (numbers (through (step n) t))

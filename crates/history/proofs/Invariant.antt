@@ -16,7 +16,6 @@ use Rattle.order.specs.Fine.{Fine}
 use Rattle.beam.specs.Advance.{swaps, advanced}
 use Rattle.step.specs.Step.{lit, working, settled, stepped, shotsOf}
 use Rattle.step.proofs.Keeps.{settled-fine, settled-same}
-use Rattle.ppu.specs.Numbers.{paced}
 use Rattle.history.specs.Run.{World, Call, Deed, steps, writes, colours, stores, nothing, does, shotsBy, swapsBy, blanksBy}
 use Rattle.history.specs.Run.{deedOf, freshWorld, swapped, blanked}
 use Rattle.history.specs.Stored.{Stored, storedBy, Trace, go, trace, begun, numbers}
@@ -27,7 +26,7 @@ use Rattle.history.proofs.Kept.{WorldSized, fresh-sized, sized-kept}
 use Rattle.memory.proofs.Fine.{fresh-fine}
 use Rattle.registers.proofs.Fine.{mode-written, write-fine, colour-fine}
 use Rattle.history.proofs.Phase.{first′, Phase, PhaseOf, MidOf, mid-rising, phase-rising}
-use Rattle.ppu.proofs.Pace.{pace-small}
+use Rattle.ppu.proofs.Pace.{Pace}
 use Rattle.history.proofs.Steps.{stepped-fine, mid-ends, advanced-count, advanced-origin, settled-count, settled-swaps, step-mid, step-phase}
 
 -- of the state and the places stored since; full: a swap was the latest of start, swap and blanking
@@ -84,7 +83,7 @@ module _ {full : Bool} (n : ℕ) (lent : Tables) {s : State} {l : List Stored} (
   low = let k = rising-most (phase-rising (f .beam .x) (i .phase)) in omega (arith, i .count, length-map l (λ (t : Stored). t .place))
 
   -- a step, before the cycle advances: the places, their number, and the phase
-  module _ (pace : paced (s .beam .cycle) n ≡ true) where
+  module _ (pace : Pace (s .beam .cycle) n) where
     pub lit-mid : MidOf full n (settled n lent s) (numbers (l ++ storedBy (working n lent s .shots)))
     lit-mid = rw (map-append (λ (t : Stored). t .place) l (storedBy (working n lent s .shots))) (step-mid n lent s f low pace (i .phase))
 
@@ -104,7 +103,7 @@ module _ {full : Bool} (n : ℕ) (lent : Tables) {s : State} {l : List Stored} (
           count = counted (swaps n (s .beam)) refl;
           phase = phased (swaps n (s .beam)) (rw (map-append (λ (t : Stored). t .place) l (storedBy (working n lent s .shots))) (step-phase n lent s f low pace (i .phase)));
           origin = λ line cycle.
-              let e = sym (settled-swaps n lent s) ∙ advanced-origin n (settled n lent s) (pace-small (s .beam .cycle) n pace .0) line cycle in
+              let e = sym (settled-swaps n lent s) ∙ advanced-origin n (settled n lent s) (pace .some) line cycle in
               (ap (λ (b : Bool). b || full) e, ap (λ (b : Bool). cond b [] (l ++ storedBy (working n lent s .shots))) e);
         }
       where

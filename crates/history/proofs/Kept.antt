@@ -3,13 +3,14 @@ use mathlib.Core.Path.{_≡_, refl, _∙_}
 use mathlib.Core.Bool.{true, _&&_}
 use mathlib.Core.List.{List, [], _∷_}
 use Prim.Native.Nat.{ℕ, zero, suc}
-use borrow.Author.Tests.{eq-eqb}
 use lib.ListN.{length, length-replicate}
 use Rattle.hardware.specs.Screen.{pictureBytes}
 use Rattle.logic.proofs.Tests.{by-test}
 use Rattle.logic.proofs.Both.{both}
 use Rattle.hardware.specs.declared.Machine.{Machine}
 use Rattle.hardware.specs.Tables.{tablesFit, TablesSized, vramBytes, oamBytes}
+use Rattle.hardware.proofs.Tables.{tables-fit}
+use Rattle.lcd.proofs.Pictures.{pictures-fit}
 use Rattle.lcd.specs.Pictures.{Pictures, picturesFit, PicturesSized, filledWith}
 use Rattle.registers.specs.Write.{kept, blanks}
 use Rattle.draw.specs.declared.Shot.{Shot}
@@ -77,5 +78,4 @@ sized-kept c w f h =
 
 -- lent memory of its sizes passes the test for them
 pub lent-fits : (w : World) → WorldSized w → tablesFit (w .tables) && picturesFit (w .pictures) ≡ true
-lent-fits w h =
-    both (both (eq-eqb _ _ (h .tables .vram)) (eq-eqb _ _ (h .tables .oam))) (both (eq-eqb _ _ (h .pictures .a)) (eq-eqb _ _ (h .pictures .b)))
+lent-fits w h = both (tables-fit (h .tables)) (pictures-fit (h .pictures))

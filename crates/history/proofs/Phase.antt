@@ -18,13 +18,12 @@ use Rattle.modes.specs.Modes.{entered, searched, rendering}
 use Rattle.burst.proofs.Keep.{burst-same}
 use Rattle.step.specs.Step.{working}
 use Rattle.step.proofs.Keeps.{ready-fine}
-use Rattle.ppu.specs.Numbers.{paced}
 use Rattle.bound.specs.Potential.{leftAt, left, Paced, Steady}
 use Rattle.bound.proofs.Potential.{left-any, paced-start, steady-inside, steady-start}
 use Rattle.bound.proofs.Bursts.{burst-falls, burst-loose, burst-paced, burst-window}
 use Rattle.history.specs.Stored.{Stored, storedBy, numbers}
 use Rattle.history.proofs.Rising.{Rising, rising-upper, rising-append}
-use Rattle.ppu.proofs.Pace.{pace-to, pace-small}
+use Rattle.ppu.proofs.Pace.{Pace}
 use Rattle.history.proofs.Places.{spotNumber, Came, on, over, Ran, burst-ran, ran-rising, burst-idle}
 use Rattle.history.proofs.Views.{View, view-scan, view-early, view-render, view-late, view-below}
 
@@ -129,7 +128,7 @@ drawing {full} n vram r l f m c up = by ran (ran .came)
     by q (on low at k) = goes k (up-same (omega (arith, q .line)) (up-more q up))
     by q (over end at k) = stops (λ z. absurd (omega arith)) at (up-same (omega arith) (up-more q up))
 
-module _ (full : Bool) (n : ℕ) (lent : Tables) (s : State) (f : Fine s) (pace : paced (s .beam .cycle) n ≡ true) (c : s .beam .count < 65536) where
+module _ (full : Bool) (n : ℕ) (lent : Tables) (s : State) (f : Fine s) (pace : Pace (s .beam .cycle) n) (c : s .beam .count < 65536) where
   ready : State
   ready = searched (lent .oam) (entered s)
 
@@ -188,7 +187,7 @@ module _ (full : Bool) (n : ℕ) (lent : Tables) (s : State) (f : Fine s) (pace 
       early h =
           let v = view-early (lent .oam) s line h in
           let other : modeOf (ready .regs .stat) ≡ 3 → ⊥ = λ z. v .1 m (sym (v .2 .mode) ∙ z) in
-          idle {l = l} other (before other (rw (v .2 .cycle) (pace-to (s .beam .cycle) n pace 20 (f .beam .even) h)) (rw (v .2 .line) line)
+          idle {l = l} other (before other (rw (v .2 .cycle) (pace .upto 20 (f .beam .even) h)) (rw (v .2 .line) line)
           (rw (v .2 .line, v .2 .x, v .2 .pipe) e) (rw (v .2 .line, v .2 .x) up))
 
       starts : s .beam .cycle ≡ 80 → MidOf full n (burst n (lent .vram) ready .state) (l ++ numbers (storedBy (burst n (lent .vram) ready .shots)))
@@ -220,7 +219,7 @@ module _ (full : Bool) (n : ℕ) (lent : Tables) (s : State) (f : Fine s) (pace 
   worked {l} (carried z line cycle w up) =
       let v = view-scan (lent .oam) s (omega arith) cycle in
       let other : modeOf (ready .regs .stat) ≡ 3 → ⊥ = λ z. absurd (omega (arith, v .mode)) in
-      idle {l = l} other (before other (omega (arith, v .cycle, pace-small (s .beam .cycle) n pace .1)) (omega (arith, v .line)) (inside (rw (v .pipe) w))
+      idle {l = l} other (before other (omega (arith, v .cycle, pace .most)) (omega (arith, v .line)) (inside (rw (v .pipe) w))
       (rw (v .line, v .x) up))
   worked {l} (ended m low line x up) =
       let v = view-late (lent .oam) s line low in

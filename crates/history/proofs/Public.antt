@@ -3,16 +3,15 @@ use mathlib.Core.Path.{_≡_, refl, sym, ap, _∙_}
 use mathlib.Core.Bool.{Bool, true, false, cond, _&&_}
 use mathlib.Core.List.{List}
 use Prim.Native.Nat.{ℕ}
-use borrow.Author.Tests.{eqb-true}
-use lib.Dec.{eqb}
-use lib.ListN.{length, replicate}
+use lib.ListN.{replicate}
 use Rattle.logic.proofs.Both.{split}
 use Rattle.refusals.specs.Ladder.{done}
 use Rattle.refusals.proofs.Ladder.{lowest-none}
-use Rattle.hardware.specs.Screen.{pictureBytes}
-use Rattle.hardware.specs.Tables.{Tables, tables, tablesFit, vramBytes, oamBytes, withVram, withOam}
+use Rattle.hardware.specs.Tables.{Tables, tables, tablesFit, TablesSized, withVram, withOam}
 use Rattle.hardware.specs.declared.Machine.{Machine}
-use Rattle.lcd.specs.Pictures.{Pictures, pictures, picturesFit, filledWith}
+use Rattle.hardware.proofs.Tables.{tables-sized}
+use Rattle.lcd.proofs.Pictures.{pictures-sized}
+use Rattle.lcd.specs.Pictures.{Pictures, pictures, picturesFit, PicturesSized, filledWith}
 use Rattle.sprite.specs.Pick.{pickOf}
 use Rattle.sprite.specs.declared.Picked.{Picked}
 use Rattle.state.specs.declared.State.{State}
@@ -126,12 +125,12 @@ pub start-fresh : {m : Machine} {t : Tables} {p : Pictures} {r : Answer} {t′ :
     → Start m t p r t′ p′ → startNumber t p ≡ 0 → record { state = r .state; tables = t′; pictures = p′ } ≡ freshWorld m
 start-fresh {m} {t} {p} {t′ = t′} {p′} d z =
     let fits = split (tablesFit t) _ (lowest-none (tablesFit t && picturesFit p) true z .sized) in
-    let tabled = split (eqb (length (t .vram)) vramBytes) _ (fits .0) in
-    let drawn = split (eqb (length (p .a)) pictureBytes) _ (fits .1) in
-    let v = ap (λ (k : ℕ). replicate {A = ℕ} k 0) (eqb-true (length (t .vram)) vramBytes (tabled .0)) in
-    let o = ap (λ (k : ℕ). replicate {A = ℕ} k 0) (eqb-true (length (t .oam)) oamBytes (tabled .1)) in
-    let a = ap (λ (k : ℕ). replicate {A = ℕ} k 255) (eqb-true (length (p .a)) pictureBytes (drawn .0)) in
-    let b = ap (λ (k : ℕ). replicate {A = ℕ} k 255) (eqb-true (length (p .b)) pictureBytes (drawn .1)) in
+    let lent : TablesSized t = tables-sized (fits .0) in
+    let drawn : PicturesSized p = pictures-sized (fits .1) in
+    let v = ap (λ (k : ℕ). replicate {A = ℕ} k 0) (lent .vram) in
+    let o = ap (λ (k : ℕ). replicate {A = ℕ} k 0) (lent .oam) in
+    let a = ap (λ (k : ℕ). replicate {A = ℕ} k 255) (drawn .a) in
+    let b = ap (λ (k : ℕ). replicate {A = ℕ} k 255) (drawn .b) in
     let clear : t′ ≡ cleared t = (rw z at (d .tables)) in
     let white : p′ ≡ filledWith 255 p = (rw z at (d .pictures)) in
     (λ i. record { state = d .state i; tables = clear i; pictures = white i })

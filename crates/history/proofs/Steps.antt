@@ -21,8 +21,7 @@ use Rattle.beam.proofs.Ways.{advanced-cases}
 use Rattle.beam.proofs.Fine.{advance-fine}
 use Rattle.step.specs.Step.{lit, working, settled, stepped}
 use Rattle.step.proofs.Keeps.{ready-fine, settled-fine, settled-same}
-use Rattle.ppu.specs.Numbers.{paced}
-use Rattle.ppu.proofs.Pace.{pace-small, pace-even, pace-fits}
+use Rattle.ppu.proofs.Pace.{Pace}
 use Rattle.bound.proofs.Potential.{left-positive}
 use Rattle.history.specs.Stored.{storedBy, numbers}
 use Rattle.history.proofs.Places.{burst-ran, burst-idle}
@@ -31,15 +30,15 @@ use Rattle.history.proofs.Phase.{Mid, PhaseOf, MidOf, worked}
 use Rattle.history.proofs.Onward.{onward-phase}
 
 -- a step keeps the order, unless it carries mode 3 out of the last visible line
-pub stepped-fine : (n : ℕ) (lent : Tables) (s : State) → paced (s .beam .cycle) n ≡ true → Fine s
+pub stepped-fine : (n : ℕ) (lent : Tables) (s : State) → Pace (s .beam .cycle) n → Fine s
     → (s .beam .line + 1 ≡ height → s .beam .cycle + n ≡ lineCycles → modeOf (settled n lent s .regs .stat) ≡ 3 → ⊥) → Fine (stepped n lent s)
 unfolding stepped
 stepped-fine n lent s pace f over =
     let same = settled-same n lent s in
     let b = f .beam in
     by-test Fine (lit s)
-    (λ on. advance-fine n (settled n lent s) (rw (same .cycle) (pace-even (s .beam .cycle) n pace (b .even)))
-    (rw (same .cycle) (pace-fits (s .beam .cycle) n pace (b .even) (b .cycle))) (settled-fine n lent s f)
+    (λ on. advance-fine n (settled n lent s) (rw (same .cycle) (pace .even (b .even)))
+    (rw (same .cycle) (pace .fits (b .even) (b .cycle))) (settled-fine n lent s f)
     (λ l e m. over (omega (arith, same .line)) (omega (arith, same .cycle)) m))
     (λ off. f)
 
@@ -91,7 +90,7 @@ module _ (n : ℕ) (lent : Tables) (s : State) (f : Fine s) (c : s .beam .count 
 pub settled-swaps : (n : ℕ) (lent : Tables) (s : State) → swaps n (settled n lent s .beam) ≡ swaps n (s .beam)
 settled-swaps n lent s = let same = settled-same n lent s in rw (same .cycle, same .line) refl
 
-module _ {full : Bool} (n : ℕ) (lent : Tables) (s : State) (f : Fine s) (c : s .beam .count < 65536) (pace : paced (s .beam .cycle) n ≡ true)
+module _ {full : Bool} (n : ℕ) (lent : Tables) (s : State) (f : Fine s) (c : s .beam .count < 65536) (pace : Pace (s .beam .cycle) n)
     {l : List ℕ} (p : PhaseOf full s l) where
   -- before the cycle advances
   pub step-mid : MidOf full n (settled n lent s) (l ++ numbers (storedBy (working n lent s .shots)))
@@ -102,4 +101,4 @@ module _ {full : Bool} (n : ℕ) (lent : Tables) (s : State) (f : Fine s) (c : s
   pub step-phase : PhaseOf (swaps n (s .beam) || full) (advanced n (settled n lent s))
       (cond (swaps n (s .beam)) [] (l ++ numbers (storedBy (working n lent s .shots))))
   step-phase =
-      rw (settled-swaps n lent s) at (onward-phase full n (settled n lent s) (settled-fine n lent s f) (pace-small (s .beam .cycle) n pace .0) step-mid)
+      rw (settled-swaps n lent s) at (onward-phase full n (settled n lent s) (settled-fine n lent s f) (pace .some) step-mid)

@@ -1,64 +1,74 @@
--- No promise leaves freedom: two results that one allows for the same inputs coincide, for the answer, the state and every lent byte.
-use mathlib.Core.Path.{_≡_, sym, _∙_}
-use mathlib.Core.Bool.{Bool}
+-- No promise leaves freedom: two results that one allows for the same inputs coincide, the answer, the state and every lent byte.
+use mathlib.Core.Path.{_≡_, refl, sym, ap, _∙_}
+use mathlib.Core.Bool.{Bool, true, false}
 use mathlib.Core.List.{List}
 use Prim.Native.Nat.{ℕ}
-use Rattle.state.specs.declared.State.{State}
+use denote.Ref.{RefT, now}
+use Rattle.hardware.specs.Tables.{Tables}
+use Rattle.hardware.specs.declared.Machine.{Machine}
+use Rattle.lcd.specs.Pictures.{Pictures, pictures}
 use Rattle.sprite.specs.Pick.{pickOf}
 use Rattle.sprite.specs.declared.Picked.{Picked}
-use Rattle.ppu.specs.Calls.{Start, Step, RegisterWrite, readAnswer, colourAnswer, VramWrite, OamWrite, Corruption}
+use Rattle.state.specs.declared.State.{State}
+use Rattle.ppu.specs.Calls.{Start, Step, RegisterWrite, readAnswer, colourAnswer}
+use Rattle.ppu.specs.Calls.{VramWrite, OamWrite, Corruption, shows, Shown}
 use Rattle.ppu.specs.declared.Answer.{Answer}
 use Rattle.ppu.specs.declared.StepAnswer.{StepAnswer}
 use Rattle.ppu.specs.declared.ReadAnswer.{ReadAnswer}
+use Rattle.ppu.proofs.Answers.{same-answer, same-step}
 
 -- two that equal a third
 one : {A : Type 0} {x y z : A} → x ≡ z → y ≡ z → x ≡ y
 one p q = p ∙ sym q
 
-same-answer : {r q : Answer} → r .number ≡ q .number → r .state ≡ q .state → r ≡ q
-same-answer n s = λ i. record { number = n i; state = s i }
+pub start-coincides : {m : Machine} {t u v : Tables} {p x y : Pictures} {r q : Answer}
+    → Start m t p r u x → Start m t p q v y → (r ≡ q) × (u ≡ v) × (x ≡ y)
+start-coincides e f =
+    let r = same-answer (one (e .number) (f .number)) (one (e .state) (f .state)) in
+    (r, one (e .tables) (f .tables), one (e .pictures) (f .pictures))
 
-pub start-coincides : {dmg colour : Bool} {vram oam a b : List ℕ} {r q : Answer} {v o x y v′ o′ x′ y′ : List ℕ}
-    → Start dmg colour vram oam a b r v o x y → Start dmg colour vram oam a b q v′ o′ x′ y′
-    → (r ≡ q) × (v ≡ v′) × (o ≡ o′) × (x ≡ x′) × (y ≡ y′)
-start-coincides p q = (
-  same-answer (one (p .number) (q .number)) (one (p .state) (q .state)),
-  one (p .cleared) (q .cleared),
-  one (p .emptied) (q .emptied),
-  one (p .filledA) (q .filledA),
-  one (p .filledB) (q .filledB),
-)
+pub step-coincides : {s : State} {t : Tables} {p x y : Pictures} {n : ℕ} {r q : StepAnswer}
+    → Step s t p n r x → Step s t p n q y → (r ≡ q) × (x ≡ y)
+step-coincides e f =
+    let r = same-step (one (e .number) (f .number)) (one (e .answer) (f .answer)) (one (e .state) (f .state)) in
+    (r, one (e .pictures) (f .pictures))
 
-pub step-coincides : {s : State} {vram oam a b : List ℕ} {n : ℕ} {r q : StepAnswer} {x y x′ y′ : List ℕ}
-    → Step s vram oam a b n r x y → Step s vram oam a b n q x′ y′ → (r ≡ q) × (x ≡ x′) × (y ≡ y′)
-step-coincides p q =
-    let n = one (p .number) (q .number) in
-    let a = one (p .answer) (q .answer) in
-    let s = one (p .state) (q .state) in
-    ((λ i. record { number = n i; report = a i; state = s i }), one (p .drawnA) (q .drawnA), one (p .drawnB) (q .drawnB))
-
-pub write-coincides : {s : State} {a b : List ℕ} {address value : ℕ} {r q : Answer} {x y x′ y′ : List ℕ}
-    → RegisterWrite s a b address value r x y → RegisterWrite s a b address value q x′ y′ → (r ≡ q) × (x ≡ x′) × (y ≡ y′)
-write-coincides p q =
-    (same-answer (one (p .number) (q .number)) (one (p .state) (q .state)), one (p .leftA) (q .leftA), one (p .leftB) (q .leftB))
+pub write-coincides : {s : State} {p x y : Pictures} {address value : ℕ} {r q : Answer}
+    → RegisterWrite s p address value r x → RegisterWrite s p address value q y → (r ≡ q) × (x ≡ y)
+write-coincides e f =
+    let r = same-answer (one (e .number) (f .number)) (one (e .state) (f .state)) in
+    (r, one (e .pictures) (f .pictures))
 
 pub read-coincides : (s : State) (address : ℕ) {r q : ReadAnswer} → r ≡ readAnswer s address → q ≡ readAnswer s address → r ≡ q
-read-coincides s address p q = one p q
+read-coincides s address = one
 
 pub colour-coincides : (s : State) (flag : Bool) {r q : Answer} → r ≡ colourAnswer s flag → q ≡ colourAnswer s flag → r ≡ q
-colour-coincides s flag p q = one p q
+colour-coincides s flag = one
 
-pub vram-coincides : {s : State} {vram : List ℕ} {address value r q : ℕ} {x y : List ℕ}
+pub vram-coincides : {s : State} {vram x y : List ℕ} {address value r q : ℕ}
     → VramWrite s vram address value r x → VramWrite s vram address value q y → (r ≡ q) × (x ≡ y)
-vram-coincides p q = (one (p .given) (q .given), one (p .written) (q .written))
+vram-coincides e f = (one (e .number) (f .number), one (e .written) (f .written))
 
-pub oam-coincides : {oam : List ℕ} {address value r q : ℕ} {x y : List ℕ}
+pub oam-coincides : {oam x y : List ℕ} {address value r q : ℕ}
     → OamWrite oam address value r x → OamWrite oam address value q y → (r ≡ q) × (x ≡ y)
-oam-coincides p q = (one (p .given) (q .given), one (p .written) (q .written))
+oam-coincides e f = (one (e .number) (f .number), one (e .written) (f .written))
 
-pub corruption-coincides : {rule : List ℕ → ℕ → List ℕ} {s : State} {oam : List ℕ} {r q : ℕ} {x y : List ℕ}
+-- each of the three corruptions, by its rule
+pub corruption-coincides : {rule : List ℕ → ℕ → List ℕ} {s : State} {oam x y : List ℕ} {r q : ℕ}
     → Corruption rule s oam r x → Corruption rule s oam q y → (r ≡ q) × (x ≡ y)
-corruption-coincides p q = (one (p .given) (q .given), one (p .corrupted) (q .corrupted))
+corruption-coincides e f = (one (e .number) (f .number), one (e .corrupted) (f .corrupted))
 
-pub pick-coincides : (oam : List ℕ) (line height : ℕ) {r q : Picked} → r ≡ pickOf oam line height → q ≡ pickOf oam line height → r ≡ q
-pick-coincides oam line height p q = one p q
+-- the picture shown: one reference; on a refusal both are empty
+pub shown-coincides : {s : State} {a b r q : RefT (List ℕ)} → Shown s a b r → Shown s a b q
+    → (shows s (pictures (now a) (now b)) ≡ true → r ≡ q) × (now r ≡ now q)
+shown-coincides {s} {a} {b} {r} {q} e f = (given, by (shows s (pictures (now a) (now b))) refl)
+  where
+    given : shows s (pictures (now a) (now b)) ≡ true → r ≡ q
+    given t = one (e .picture t) (f .picture t)
+
+    by : (v : Bool) → shows s (pictures (now a) (now b)) ≡ v → now r ≡ now q
+    by true t = ap now (given t)
+    by false t = one (e .empty t) (f .empty t)
+
+pub pick-coincides : (oam : List ℕ) (line tall : ℕ) {r q : Picked} → r ≡ pickOf oam line tall → q ≡ pickOf oam line tall → r ≡ q
+pick-coincides oam line tall = one

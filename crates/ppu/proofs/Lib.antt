@@ -1,4 +1,11 @@
 -- The laws of `ppu` that belong to no one function.
-pub mod Tests
-pub mod Faces
+-- what holds where a state and what is lent passed their tests
+pub mod Graded
+-- what a step of 2 or 4 cycles does to the cycle
+pub mod Pace
+-- a corruption, refused or done
+pub mod Bug
+-- answers are equal by their parts
+pub mod Answers
+-- no promise leaves freedom
 pub mod Coincide

@@ -1,5 +1,5 @@
 -- `ppu::is_paced` meets its contract.
-use borrow.Author.Tests.{eq-eqb, ne-eqb, lt-ltb, le-ltb, le-leb, lt-leb}
+use borrow.Author.Tests.{eq-eqb, ne-eqb}
 use Rattle.ppu.proofs.is_paced.Statement.{statement}
 use Rattle.ppu.proofs.is_paced.Tie as tie
 

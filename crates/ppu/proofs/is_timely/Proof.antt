@@ -1,5 +1,5 @@
 -- `ppu::is_timely` meets its contract.
-use borrow.Author.Tests.{eq-eqb, ne-eqb, lt-ltb, le-ltb, le-leb, lt-leb}
+use borrow.Author.Tests.{eq-eqb, ne-eqb, le-leb, lt-leb}
 use Rattle.ppu.proofs.is_timely.Statement.{statement}
 use Rattle.ppu.proofs.is_timely.Tie as tie
 
@@ -10,7 +10,9 @@ returns-2 : tie.Need-returns-2
 returns-2 c = rw (eq-eqb _ _ (c .before .before .if1 .left), lt-leb _ _ (c .if2 .taken))
 
 returns-3 : tie.Need-returns-3
-returns-3 c = rw (eq-eqb _ _ (c .before .before .before .if1 .left), le-leb _ _ (c .before .if2 .left))
+returns-3 c =
+    let later = c .before in
+    rw (eq-eqb _ _ (later .before .before .if1 .left), le-leb _ _ (later .if2 .left))
 
 pub is-timely-spec : {M : Type 1} → statement M
 is-timely-spec = tie.close (tie.spec returns returns-2 returns-3)

@@ -1,42 +1,28 @@
 -- `ppu::read_register` meets its contract.
-use native.Mathlib.Omega.{arith}
-use Rattle.order.proofs.Clauses.{clauses}
-use Rattle.ppu.specs.Numbers.{readNumber}
-use Rattle.ppu.proofs.Tests.{failed, passed}
 use borrow.Author.Needs.{needs}
+use Rattle.refusals.proofs.Given.{refused, accepted}
+use Rattle.ppu.proofs.Answers.{same-read}
+use Rattle.ppu.proofs.Graded.{graded-fine}
 use Rattle.ppu.proofs.read_register.Statement.{statement}
 use Rattle.ppu.proofs.read_register.Tie as tie
 
-in-order-requires : tie.Need-in-order-requires
-in-order-requires c κs = search needs
+read-number-requires : tie.Need-read-number-requires
+read-number-requires c κs = search needs
 
 returns : tie.Need-returns
-unfolding readNumber
-returns c = rw (failed (c .before .in-order .ensures .answer) (c .if1 .taken))
-
-is-readable-requires : tie.Need-is-readable-requires
-is-readable-requires c κs = search needs
-
-returns-2 : tie.Need-returns-2
-unfolding readNumber
-returns-2 c = rw (passed (c .before .before .before .in-order .ensures .answer) (c .before .before .if1 .left), failed (c .before .is-readable .ensures) (c .if2 .taken))
+returns c =
+    let e = c .before .read-number .ensures .number in
+    same-read e (refused e _ _ (c .if1 .taken))
 
 read-register-requires : tie.Need-read-register-requires
-read-register-requires c κs =
-    let o = clauses (c .before .before .before .before .args .s) (passed (c .before .before .before .in-order .ensures .answer) (c .before .before .if1 .left)) in
-    (omega (arith, o .bgIndex), omega (arith, o .objIndex))
+read-register-requires c κs = graded-fine _ (c .before .read-number .ensures) (c .if1 .left) .fine .palettes
 
-returns-3 : tie.Need-returns-3
-unfolding readNumber
-returns-3 c = rw (passed (c .before .before .before .before .in-order .ensures .answer) (c .before .before .before .if1 .left), passed (c .before .before .is-readable .ensures) (c .before .if2 .left), c .read-register .ensures)
+returns-2 : tie.Need-returns-2
+returns-2 c =
+    let choice = c .before in
+    let e = choice .before .read-number .ensures .number in
+    same-read e (accepted e _ _ (choice .if1 .left) (c .read-register .ensures))
 
 pub read-register-spec : {M : Type 1} → statement M
 read-register-spec =
-    tie.close
-    (tie.spec
-    in-order-requires
-    returns
-    is-readable-requires
-    returns-2
-    read-register-requires
-    returns-3)
+    tie.close (tie.spec read-number-requires returns read-register-requires returns-2)

@@ -1,23 +1,26 @@
 -- `ppu::set_colour` meets its contract.
-use Rattle.ppu.specs.Numbers.{colourNumber}
-use Rattle.ppu.proofs.Tests.{failed, passed}
 use borrow.Author.Needs.{needs}
+use Rattle.refusals.proofs.Given.{refused, accepted}
+use Rattle.ppu.proofs.Answers.{same-answer}
 use Rattle.ppu.proofs.set_colour.Statement.{statement}
 use Rattle.ppu.proofs.set_colour.Tie as tie
 
-in-order-requires : tie.Need-in-order-requires
-in-order-requires c κs = search needs
+colour-number-requires : tie.Need-colour-number-requires
+colour-number-requires c κs = search needs
 
 returns : tie.Need-returns
-unfolding colourNumber
-returns c = rw (failed (c .before .in-order .ensures .answer) (c .if1 .taken))
+returns c =
+    let e = c .before .colour-number .ensures .number in
+    same-answer e (refused e _ _ (c .if1 .taken))
 
 set-colour-requires : tie.Need-set-colour-requires
 set-colour-requires c κs = search needs
 
 returns-2 : tie.Need-returns-2
-unfolding colourNumber
-returns-2 c = rw (passed (c .before .before .in-order .ensures .answer) (c .before .if1 .left), c .set-colour .ensures)
+returns-2 c =
+    let choice = c .before in
+    let e = choice .before .colour-number .ensures .number in
+    same-answer e (accepted e _ _ (choice .if1 .left) (c .set-colour .ensures))
 
 pub set-colour-spec : {M : Type 1} → statement M
-set-colour-spec = tie.close (tie.spec in-order-requires returns set-colour-requires returns-2)
+set-colour-spec = tie.close (tie.spec colour-number-requires returns set-colour-requires returns-2)

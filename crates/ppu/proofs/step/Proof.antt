@@ -1,62 +1,22 @@
 -- `ppu::step` meets its contract.
-use Rattle.order.proofs.Clauses.{clauses}
-use mathlib.Core.Path.{refl}
-use Rattle.ppu.specs.Numbers.{stepNumber}
-use Rattle.ppu.proofs.Tests.{failed, passed, all-sized, pace-fits}
-use Rattle.ppu.proofs.Faces.{step-refused, step-done}
+use mathlib.Core.Path.{_∙_}
+use native.Mathlib.Omega.{arith}
 use borrow.Author.Needs.{needs}
+use Rattle.logic.proofs.Both.{split}
+use Rattle.refusals.proofs.Given.{refused, accepted}
+use Rattle.refusals.proofs.Ladder.{own-none}
+use Rattle.hardware.proofs.Tables.{tables-sized}
+use Rattle.lcd.proofs.Pictures.{pictures-sized}
+use Rattle.ppu.proofs.Graded.{graded-fine}
+use Rattle.ppu.proofs.Pace.{pace}
 use Rattle.ppu.proofs.step.Statement.{statement}
 use Rattle.ppu.proofs.step.Tie as tie
 
-all-fit-requires : tie.Need-all-fit-requires
-all-fit-requires c κs = search needs
+step-number-requires : tie.Need-step-number-requires
+step-number-requires c κs = search needs
 
-refused-step-requires : tie.Need-refused-step-requires
-refused-step-requires c κs = search needs
-
-returns : tie.Need-returns
-unfolding stepNumber
-returns c = step-refused 1 (rw (failed (c .before .before .all-fit .ensures) (c .before .if1 .taken)) refl) refl (c .refused-step .ensures)
-
-in-order-requires : tie.Need-in-order-requires
-in-order-requires c κs = search needs
-
-refused-step-requires-2 : tie.Need-refused-step-requires-2
-refused-step-requires-2 c κs = search needs
-
-returns-2 : tie.Need-returns-2
-unfolding stepNumber
-returns-2 c =
-    step-refused 2
-    (rw (passed (c .before .before .before .before .all-fit .ensures) (c .before .before .before .if1 .left), failed (c .before .before .in-order .ensures .answer) (c .before .if2 .taken)) refl) refl (c .refused-step2 .ensures)
-
-is-paced-requires : tie.Need-is-paced-requires
-is-paced-requires c κs = search needs
-
-refused-step-requires-3 : tie.Need-refused-step-requires-3
-refused-step-requires-3 c κs = search needs
-
-returns-3 : tie.Need-returns-3
-unfolding stepNumber
-returns-3 c =
-    step-refused 3
-    (rw (passed (c .before .before .before .before .before .before .all-fit .ensures) (c .before .before .before .before .before .if1 .left), passed (c .before .before .before .before .in-order .ensures .answer) (c .before .before .before .if2 .left), failed (c .before .before .is-paced .ensures) (c .before .if3 .taken)) refl) refl (c .refused-step3 .ensures)
-
-step-requires : tie.Need-step-requires
-step-requires c κs =
-    let s = c .before .before .before .before .before .before .before .before .before .before .before .before .args in
-    let sizes = all-sized _ _ _ _ (passed (c .before .before .before .before .before .before .before .all-fit .ensures) (c .before .before .before .before .before .before .if1 .left)) in
-    let judged = c .before .before .before .before .before .in-order .ensures in
-    let order = passed (judged .answer) (c .before .before .before .before .if2 .left) in
-    let o = clauses (s .s) order in (
-      sizes .vram16384,
-      sizes .oam160,
-      sizes .pair .0,
-      sizes .pair .1,
-      judged .shape,
-      order,
-      pace-fits (s .s .beam .cycle) (s .cycles) (o .even) (o .cycle) (passed (c .before .before .before .is-paced .ensures) (c .before .before .if3 .left)),
-    )
+no-report-requires : tie.Need-no-report-requires
+no-report-requires c κs = search needs
 
 same-length : tie.Need-same-length
 same-length c = search needs
@@ -64,27 +24,56 @@ same-length c = search needs
 same-length-2 : tie.Need-same-length-2
 same-length-2 c = search needs
 
-returns-4 : tie.Need-returns-4
-unfolding stepNumber
-returns-4 c =
-    step-done
-    (rw (passed (c .before .before .before .before .before .before .before .before .before .before .before .before .before .before .all-fit .ensures) (c .before .before .before .before .before .before .before .before .before .before .before .before .before .if1 .left), passed (c .before .before .before .before .before .before .before .before .before .before .before .before .in-order .ensures .answer) (c .before .before .before .before .before .before .before .before .before .before .before .if2 .left), passed (c .before .before .before .before .before .before .before .before .before .before .is-paced .ensures) (c .before .before .before .before .before .before .before .before .before .if3 .left)) refl)
-    (c .before .before .before .before .before .before .step .ensures)
+returns : tie.Need-returns
+returns c =
+    let choice = c .before in
+    let e = choice .before .step-number .ensures .number in
+    let h = choice .if1 .taken in
+    record { number = e; answer = c .no-report .ensures ∙ refused e _ _ h; state = refused e _ _ h; pictures = refused e _ _ h }
+
+step-requires : tie.Need-step-requires
+step-requires c κs =
+    let choice = c .before .before in
+    let f = graded-fine _ (choice .before .step-number .ensures) (choice .if1 .left) in
+    let sizes = split _ _ (f .sized) in
+    let b = f .fine .beam in (
+      record { tables = tables-sized (sizes .0); pictures = pictures-sized (sizes .1); fine = f .fine },
+      pace _ _ (own-none _ {n = 3} (omega arith) (f .own)) .fits (b .even) (b .cycle),
+    )
+
+same-length-3 : tie.Need-same-length-3
+same-length-3 c = search needs
+
+same-length-4 : tie.Need-same-length-4
+same-length-4 c = search needs
+
+returns-2 : tie.Need-returns-2
+returns-2 c =
+    let taken = c .before .before in
+    let returned = taken .before .before in
+    let done = returned .before .before in
+    let lent = done .before .before in
+    let choice = lent .before in
+    let e = choice .before .step-number .ensures .number in
+    let z = choice .if1 .left in
+    let d = done .step .ensures in
+    record {
+      number = e;
+      answer = accepted e _ _ z (d .answer);
+      state = accepted e _ _ z (d .state);
+      pictures = accepted e _ _ z (d .pictures);
+    }
 
 pub step-spec : {M : Type 1} → statement M
 step-spec =
     tie.close
     (tie.spec
-    all-fit-requires
-    refused-step-requires
-    returns
-    in-order-requires
-    refused-step-requires-2
-    returns-2
-    is-paced-requires
-    refused-step-requires-3
-    returns-3
-    step-requires
+    step-number-requires
+    no-report-requires
     same-length
     same-length-2
-    returns-4)
+    returns
+    step-requires
+    same-length-3
+    same-length-4
+    returns-2)

@@ -1,29 +1,40 @@
 -- `ppu::write_oam` meets its contract.
-use mathlib.Core.Path.{refl, sym, _∙_}
-use borrow.Author.Tests.{eq-eqb, ne-eqb, lt-ltb, le-ltb, le-leb, lt-leb}
-use Rattle.ppu.specs.Numbers.{oamNumber}
-use Rattle.ppu.proofs.Faces.{oam-refused, oam-done}
+use mathlib.Core.Path.{sym, _∙_}
+use native.Mathlib.Omega.{arith}
+use borrow.Author.Tests.{eqb-true, ltb-true}
 use borrow.Author.Needs.{needs}
+use Rattle.refusals.proofs.Given.{refused, accepted}
+use Rattle.refusals.proofs.Ladder.{lowest-none, own-none}
 use Rattle.ppu.proofs.write_oam.Statement.{statement}
 use Rattle.ppu.proofs.write_oam.Tie as tie
 
-returns : tie.Need-returns
-unfolding oamNumber
-returns c = oam-refused 1 (rw (ne-eqb _ _ (c .if1 .taken)) refl) refl
-
-returns-2 : tie.Need-returns-2
-unfolding oamNumber
-returns-2 c = oam-refused 4 (rw (eq-eqb _ _ (c .before .if1 .left), le-ltb _ _ (c .if2 .taken)) refl) refl
-
-write-oam-requires : tie.Need-write-oam-requires
-write-oam-requires c κs = search needs
+oam-number-requires : tie.Need-oam-number-requires
+oam-number-requires c κs = search needs
 
 same-length : tie.Need-same-length
 same-length c = search needs
 
-returns-3 : tie.Need-returns-3
-unfolding oamNumber
-returns-3 c = oam-done (rw (eq-eqb _ _ (c .before .before .before .before .before .if1 .left), lt-ltb _ _ (c .before .before .before .before .if2 .left)) refl) (c .before .before .write-oam .ensures)
+returns : tie.Need-returns
+returns c =
+    let e = c .before .oam-number .ensures in
+    record { number = e; written = refused e _ _ (c .if1 .taken) }
+
+write-oam-requires : tie.Need-write-oam-requires
+write-oam-requires c κs =
+    let f = lowest-none _ _ (sym (c .before .before .oam-number .ensures) ∙ c .before .if1 .left) in
+    (eqb-true _ _ (f .sized), ltb-true _ _ (own-none _ (omega arith) (f .own)))
+
+same-length-2 : tie.Need-same-length-2
+same-length-2 c = search needs
+
+returns-2 : tie.Need-returns-2
+returns-2 c =
+    let done = c .before .before in
+    let choice = done .before .before in
+    let e = choice .before .oam-number .ensures in
+    record { number = e; written = accepted e _ _ (choice .if1 .left) (done .write-oam .ensures) }
 
 pub write-oam-spec : {M : Type 1} → statement M
-write-oam-spec = tie.close (tie.spec returns returns-2 write-oam-requires same-length returns-3)
+write-oam-spec =
+    tie.close
+    (tie.spec oam-number-requires same-length returns write-oam-requires same-length-2 returns-2)

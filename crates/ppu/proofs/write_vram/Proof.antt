@@ -1,38 +1,38 @@
 -- `ppu::write_vram` meets its contract.
-use Rattle.order.proofs.Clauses.{clauses}
-use mathlib.Core.Path.{refl, sym, _∙_}
-use borrow.Author.Tests.{eq-eqb, ne-eqb, lt-ltb, le-ltb, le-leb, lt-leb}
-use Rattle.ppu.specs.Numbers.{vramNumber}
-use Rattle.ppu.proofs.Tests.{failed, passed}
-use Rattle.ppu.proofs.Faces.{vram-refused, vram-done}
+use borrow.Author.Tests.{eqb-true}
 use borrow.Author.Needs.{needs}
+use Rattle.refusals.proofs.Given.{refused, accepted}
+use Rattle.ppu.proofs.Graded.{graded-fine}
 use Rattle.ppu.proofs.write_vram.Statement.{statement}
 use Rattle.ppu.proofs.write_vram.Tie as tie
 
-returns : tie.Need-returns
-unfolding vramNumber
-returns c = vram-refused 1 (rw (ne-eqb _ _ (c .if1 .taken)) refl) refl
-
-in-order-requires : tie.Need-in-order-requires
-in-order-requires c κs = search needs
-
-returns-2 : tie.Need-returns-2
-unfolding vramNumber
-returns-2 c = vram-refused 2 (rw (eq-eqb _ _ (c .before .before .if1 .left), failed (c .before .in-order .ensures .answer) (c .if2 .taken)) refl) refl
-
-write-vram-requires : tie.Need-write-vram-requires
-write-vram-requires c κs =
-    let o = clauses (c .before .before .before .before .before .args .s) (passed (c .before .before .in-order .ensures .answer) (c .before .if2 .left)) in
-    (c .before .before .before .if1 .left, o .bank)
+vram-number-requires : tie.Need-vram-number-requires
+vram-number-requires c κs = search needs
 
 same-length : tie.Need-same-length
 same-length c = search needs
 
-returns-3 : tie.Need-returns-3
-unfolding vramNumber
-returns-3 c = vram-done (rw (eq-eqb _ _ (c .before .before .before .before .before .before .if1 .left), passed (c .before .before .before .before .before .in-order .ensures .answer) (c .before .before .before .before .if2 .left)) refl) (c .before .before .write-vram .ensures)
+returns : tie.Need-returns
+returns c =
+    let e = c .before .vram-number .ensures .number in
+    record { number = e; written = refused e _ _ (c .if1 .taken) }
+
+write-vram-requires : tie.Need-write-vram-requires
+write-vram-requires c κs =
+    let f = graded-fine _ (c .before .before .vram-number .ensures) (c .before .if1 .left) in
+    (eqb-true _ _ (f .sized), f .fine .regs .bank)
+
+same-length-2 : tie.Need-same-length-2
+same-length-2 c = search needs
+
+returns-2 : tie.Need-returns-2
+returns-2 c =
+    let done = c .before .before in
+    let choice = done .before .before in
+    let e = choice .before .vram-number .ensures .number in
+    record { number = e; written = accepted e _ _ (choice .if1 .left) (done .write-vram .ensures) }
 
 pub write-vram-spec : {M : Type 1} → statement M
 write-vram-spec =
     tie.close
-    (tie.spec returns in-order-requires returns-2 write-vram-requires same-length returns-3)
+    (tie.spec vram-number-requires same-length returns write-vram-requires same-length-2 returns-2)

@@ -1,0 +1,26 @@
+-- `ppu::read_number` meets its contract.
+use borrow.Author.Needs.{needs}
+use Rattle.ppu.proofs.read_number.Statement.{statement}
+use Rattle.ppu.proofs.read_number.Tie as tie
+
+in-order-requires : tie.Need-in-order-requires
+in-order-requires c κs = search needs
+
+is-readable-requires : tie.Need-is-readable-requires
+is-readable-requires c κs = search needs
+
+own-requires : tie.Need-own-requires
+own-requires c κs = search needs
+
+lowest-requires : tie.Need-lowest-requires
+lowest-requires c κs = search needs
+
+returns : tie.Need-returns
+returns c =
+    let own = c .before .before in
+    record { number = cc; shape = own .before .in-order .ensures .shape }
+
+pub read-number-spec : {M : Type 1} → statement M
+read-number-spec =
+    tie.close
+    (tie.spec in-order-requires is-readable-requires own-requires lowest-requires returns)

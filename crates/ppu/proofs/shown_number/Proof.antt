@@ -1,0 +1,20 @@
+-- `ppu::shown_number` meets its contract.
+use borrow.Author.Needs.{needs}
+use Rattle.ppu.proofs.shown_number.Statement.{statement}
+use Rattle.ppu.proofs.shown_number.Tie as tie
+
+pictures-fit-requires : tie.Need-pictures-fit-requires
+pictures-fit-requires c κs = search needs
+
+in-order-requires : tie.Need-in-order-requires
+in-order-requires c κs = search needs
+
+lowest-requires : tie.Need-lowest-requires
+lowest-requires c κs = search needs
+
+returns : tie.Need-returns
+returns c = cc
+
+pub shown-number-spec : {M : Type 1} → statement M
+shown-number-spec =
+    tie.close (tie.spec pictures-fit-requires in-order-requires lowest-requires returns)

@@ -1,0 +1,16 @@
+-- `ppu::vram_number` meets its contract.
+use borrow.Author.Needs.{needs}
+use Rattle.ppu.proofs.vram_number.Statement.{statement}
+use Rattle.ppu.proofs.vram_number.Tie as tie
+
+in-order-requires : tie.Need-in-order-requires
+in-order-requires c κs = search needs
+
+lowest-requires : tie.Need-lowest-requires
+lowest-requires c κs = search needs
+
+returns : tie.Need-returns
+returns c = record { number = cc; shape = c .before .in-order .ensures .shape }
+
+pub vram-number-spec : {M : Type 1} → statement M
+vram-number-spec = tie.close (tie.spec in-order-requires lowest-requires returns)

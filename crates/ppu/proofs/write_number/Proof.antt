@@ -1,0 +1,35 @@
+-- `ppu::write_number` meets its contract.
+use borrow.Author.Needs.{needs}
+use Rattle.ppu.proofs.write_number.Statement.{statement}
+use Rattle.ppu.proofs.write_number.Tie as tie
+
+pictures-fit-requires : tie.Need-pictures-fit-requires
+pictures-fit-requires c κs = search needs
+
+in-order-requires : tie.Need-in-order-requires
+in-order-requires c κs = search needs
+
+is-listed-requires : tie.Need-is-listed-requires
+is-listed-requires c κs = search needs
+
+own-requires : tie.Need-own-requires
+own-requires c κs = search needs
+
+lowest-requires : tie.Need-lowest-requires
+lowest-requires c κs = search needs
+
+returns : tie.Need-returns
+returns c =
+    let own = c .before .before in
+    record { number = cc; shape = own .before .in-order .ensures .shape }
+
+pub write-number-spec : {M : Type 1} → statement M
+write-number-spec =
+    tie.close
+    (tie.spec
+    pictures-fit-requires
+    in-order-requires
+    is-listed-requires
+    own-requires
+    lowest-requires
+    returns)
