@@ -66,6 +66,7 @@ const PARTS: &[(&str, Part)] = &[
     ("order", order::sentence),
     ("draw", draw::draws),
     ("step", step::steps),
+    ("refusals, ladder", refusals::ladder),
     ("refusals, lengths", refusals::lengths),
     ("refusals, order", refusals::disorder),
     ("refusals, steps", refusals::steps),

@@ -8,6 +8,7 @@ use given::ppu::Ppu;
 use rattle::state::State;
 use std::cell::RefCell;
 use std::fmt::Debug;
+use std::ops::{Deref, DerefMut};
 use std::panic::{catch_unwind, AssertUnwindSafe};
 
 pub type Part = fn(&mut Bench) -> Result<(), String>;
@@ -29,6 +30,55 @@ pub fn caught<T>(call: impl FnOnce() -> T) -> Result<T, String> {
         .map_err(|_| STOP.with(|stop| format!("it stopped: {}", stop.borrow())))
 }
 
+/// The given machine with the count of stored places, and beside it colour mode as the last start wanted it, which the
+/// given text does not keep: a start sets it, and no other call.
+pub struct Given {
+    machine: Machine,
+    cgb: bool,
+}
+
+impl Given {
+    /// As after a start of a device that is not DMG, colour mode not wanted.
+    pub fn new() -> Self {
+        Given {
+            machine: Machine::new(),
+            cgb: false,
+        }
+    }
+
+    pub fn answer(&mut self, request: [u8; 8]) -> [u8; 16] {
+        if request[0] == 1 {
+            self.cgb = request[2] != 0;
+        }
+        self.machine.answer(request)
+    }
+
+    pub fn set(&mut self, s: &State) {
+        self.ppu.part_set(s);
+        self.count = s.beam.count;
+        self.cgb = s.machine.cgb;
+    }
+
+    /// The state in its plain form.
+    pub fn state(&self) -> State {
+        self.ppu.part_state(self.count, self.cgb)
+    }
+}
+
+impl Deref for Given {
+    type Target = Machine;
+
+    fn deref(&self) -> &Machine {
+        &self.machine
+    }
+}
+
+impl DerefMut for Given {
+    fn deref_mut(&mut self) -> &mut Machine {
+        &mut self.machine
+    }
+}
+
 /// The lent memory.
 #[derive(Clone)]
 pub struct Memory {
@@ -43,8 +93,7 @@ pub struct Bench {
     /// The seed of the run, and how large a part was asked to be.
     pub seed: u64,
     pub size: Option<u64>,
-    /// The given machine, with the count of stored places.
-    pub given: Machine,
+    pub given: Given,
     pub memory: Memory,
     pub cases: u64,
     /// The cases of `compare_after` that moved the state.
@@ -66,7 +115,7 @@ impl Bench {
             random: Random::new(seed),
             seed,
             size: None,
-            given: Machine::new(),
+            given: Given::new(),
             memory: Memory {
                 vram: vec![0; 16384],
                 oam: vec![0; 160],
@@ -117,8 +166,7 @@ impl Bench {
     }
 
     pub fn set(&mut self, s: &State) {
-        self.given.ppu.part_set(s);
-        self.given.count = s.beam.count;
+        self.given.set(s);
     }
 
     /// Runs both sides from one state and compares the answers, every field of the states, OAM and the drawn line;
@@ -127,7 +175,7 @@ impl Bench {
     pub fn compare_after<A: PartialEq + Debug>(
         &mut self,
         s: &State,
-        given: impl Fn(&mut Machine) -> A,
+        given: impl Fn(&mut Given) -> A,
         rattle: impl Fn(&mut State, &mut Memory) -> A,
     ) -> Result<State, String> {
         self.set(s);
@@ -138,7 +186,7 @@ impl Bench {
     pub fn compare_on<A: PartialEq + Debug>(
         &mut self,
         s: &State,
-        given: impl Fn(&mut Machine) -> A,
+        given: impl Fn(&mut Given) -> A,
         rattle: impl Fn(&mut State, &mut Memory) -> A,
     ) -> Result<State, String> {
         let whole = self.cases % WHOLE == 0;
@@ -161,10 +209,11 @@ impl Bench {
         rattle: impl Fn(&[u8], [u8; N]) -> T,
     ) -> Result<(), String> {
         let Bench {
-            given: Machine { ppu, .. },
+            given: machine,
             memory,
             ..
         } = self;
+        let ppu = &mut machine.ppu;
         let mut both =
             |vram: &[u8], inputs: [u8; N]| (given(ppu, inputs), caught(|| rattle(vram, inputs)));
         let (wanted, got) = both(&memory.vram, inputs);
@@ -213,7 +262,7 @@ impl Bench {
     fn differs<A: PartialEq + Debug>(
         &mut self,
         s: &State,
-        given: &impl Fn(&mut Machine) -> A,
+        given: &impl Fn(&mut Given) -> A,
         rattle: &impl Fn(&mut State, &mut Memory) -> A,
         whole: bool,
     ) -> Vec<String> {
@@ -233,7 +282,7 @@ impl Bench {
                 return lines;
             }
         }
-        let wanted = self.given.ppu.part_state(self.given.count);
+        let wanted = self.given.state();
         let got = states::plain(&state);
         self.moved += (got != states::plain(s)) as u64;
         if wanted != got {
@@ -284,7 +333,7 @@ impl Bench {
         &mut self,
         s: &State,
         found: Vec<String>,
-        given: &impl Fn(&mut Machine) -> A,
+        given: &impl Fn(&mut Given) -> A,
         rattle: &impl Fn(&mut State, &mut Memory) -> A,
     ) -> String {
         let mut memory = self.memory.clone();

@@ -1,7 +1,7 @@
 //! The two queues, by pushes, pops and clears in any order.
 
 use crate::bench::Bench;
-use crate::states;
+use crate::states::{self, COLOUR};
 use given::ppu::more::SelectedSprite;
 use given::ppu::parts::ColorPalette;
 use rattle::fifo::{SpriteFifoPixel, SpritePop};
@@ -13,7 +13,7 @@ fn colors(bench: &mut Bench) -> [u8; 8] {
 
 /// Sprites laid over each other, by index and by coordinate.
 pub fn sprites(bench: &mut Bench) -> Result<(), String> {
-    let mut s = rattle::memory::fresh_state(false, true);
+    let mut s = rattle::memory::fresh_state(COLOUR);
     for i in 0..1_000_000 {
         if i % 40 == 0 {
             let len = bench.random.below(9) as u8;
@@ -35,7 +35,7 @@ pub fn sprites(bench: &mut Bench) -> Result<(), String> {
                 color: bench.random.byte(),
                 ..states::sprite_pixel(&mut bench.random, true)
             };
-            let flags = ink.dmg << 4 | (ink.priority as u8) << 7;
+            let flags = ink.obp << 4 | (ink.priority as u8) << 7;
             let sprite = Sprite {
                 y: 0,
                 x: 0,
@@ -76,7 +76,7 @@ pub fn sprites(bench: &mut Bench) -> Result<(), String> {
 }
 
 pub fn background(bench: &mut Bench) -> Result<(), String> {
-    let mut s = rattle::memory::fresh_state(false, true);
+    let mut s = rattle::memory::fresh_state(COLOUR);
     for i in 0..1_000_000 {
         if i % 40 == 0 {
             let len = bench.random.below(17) as u8;

@@ -1,43 +1,36 @@
 //! The start, and writes to VRAM and OAM.
 
-use crate::bench::{fill, same, Bench};
-use crate::states;
-use given::machine::Machine;
+use crate::bench::{fill, same, Bench, Given};
+use crate::states::{self, COLOUR};
+use rattle::hardware::Machine;
 
-/// Every device, colour wanted or not, over whatever stood in the memory.
+/// Every machine, over whatever stood in the memory.
 pub fn start(bench: &mut Bench) -> Result<(), String> {
     for i in 0..400 {
         bench.shuffle();
-        let (dmg, colour) = (i & 1 == 1, i & 2 == 2);
+        let (dmg, cgb) = (i & 1 == 1, i & 2 == 2);
+        let machine = Machine { dmg, cgb };
         let s = states::in_order(&mut bench.random);
         bench
             .compare_after(
                 &s,
-                |g: &mut Machine| g.answer([1, dmg as u8, colour as u8, 0, 0, 0, 0, 0])[0],
+                |g: &mut Given| g.answer([1, dmg as u8, cgb as u8, 0, 0, 0, 0, 0])[0],
                 |s, m| {
-                    *s = rattle::memory::start(
-                        dmg,
-                        colour,
-                        &mut m.vram,
-                        &mut m.oam,
-                        &mut m.a,
-                        &mut m.b,
-                    );
+                    *s =
+                        rattle::memory::start(machine, &mut m.vram, &mut m.oam, &mut m.a, &mut m.b);
                     0
                 },
             )
             .and_then(|_| bench.compare_memory())
-            .map_err(|found| format!("  start, DMG {}, colour {}\n{}", dmg, colour, found))?;
-        let got = || rattle::order::in_order(rattle::memory::fresh_state(dmg, colour));
-        same(true, got, || {
-            format!("fresh state in order, DMG {}, colour {}", dmg, colour)
-        })?;
+            .map_err(|found| format!("  start, {:?}\n{}", machine, found))?;
+        let got = || rattle::order::in_order(rattle::memory::fresh_state(machine));
+        same(true, got, || format!("fresh state in order, {:?}", machine))?;
     }
     Ok(())
 }
 
 pub fn vram(bench: &mut Bench) -> Result<(), String> {
-    let mut s = rattle::memory::fresh_state(false, true);
+    let mut s = rattle::memory::fresh_state(COLOUR);
     bench.set(&s);
     for i in 0..1_000_000u32 {
         if i % 256 == 0 {

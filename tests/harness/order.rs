@@ -29,7 +29,7 @@ pub fn in_order(s: &State) -> bool {
         && r.vbk < 2
         && b.shown < 2
         && p.fetcher.delay <= 8
-        && obj.all(|pixel| pixel.dmg < 2 && pixel.index <= 39 && pixel.color <= 3)
+        && obj.all(|pixel| pixel.obp < 2 && pixel.index <= 39 && pixel.color <= 3)
         && selected.all(|slot| slot.index <= 39)
         && bg.all(|pixel| pixel.color <= 3)
         && fetched.iter().all(|&color| color <= 3)
@@ -70,7 +70,7 @@ fn touch(random: &mut Random, s: &mut State) {
         10 => s.selection.count = from(random, 11),
         11 => s.selection.slots[slot10].index = from(random, 40),
         12 => p.obj.pixels[slot8].index = from(random, 40),
-        13 => p.obj.pixels[slot8].dmg = from(random, 2),
+        13 => p.obj.pixels[slot8].obp = from(random, 2),
         14 => p.obj.pixels[slot8].color = from(random, 4),
         15 => p.bg.pixels[slot16].color = from(random, 4),
         16 => p.fetcher.row[slot8] = from(random, 4),

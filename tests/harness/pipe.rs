@@ -1,17 +1,13 @@
 //! The pipe of a draw: the window, the fetcher, and the row that goes in, each alone and one after the other.
 
-use crate::bench::{Bench, Memory};
+use crate::bench::{Bench, Given, Memory};
 use crate::states;
-use given::machine::Machine;
 use rattle::pipe;
-use rattle::state::{Spot, State};
+use rattle::state::State;
 
 fn enter(s: &mut State, _: &mut Memory) {
-    let at = Spot {
-        line: s.beam.line,
-        x: s.beam.x,
-    };
-    s.pipe = pipe::try_enter_window(s.regs, at, s.pipe);
+    let allowed = pipe::is_open(s.regs, s.beam.line);
+    s.pipe = pipe::try_enter_window(allowed, s.beam.x, s.regs.wx, s.pipe);
 }
 
 fn cycle(s: &mut State, m: &mut Memory) {
@@ -24,7 +20,7 @@ fn push(s: &mut State, _: &mut Memory) {
 
 fn many(
     bench: &mut Bench,
-    given: fn(&mut Machine),
+    given: fn(&mut Given),
     rattle: fn(&mut State, &mut Memory),
 ) -> Result<(), String> {
     for i in 0..1_000_000 {

@@ -1,11 +1,13 @@
 //! The table of refusals, said again in plain Rust, on every public call: wrong lengths, states out of order, steps,
 //! addresses, moments. A refused call gives its number, the state as given, 0 or no for all else, and writes nothing.
 
-use crate::bench::{caught, Bench, Memory, PICTURE};
+use crate::bench::{caught, same, Bench, Memory, PICTURE};
 use crate::order::in_order;
 use crate::states;
 use given::ppu::Ppu;
+use rattle::hardware::Machine;
 use rattle::ppu;
+use rattle::refusals::{lowest, own};
 use rattle::state::{State, Waiting};
 use rattle::step::Report;
 
@@ -68,7 +70,7 @@ fn has_address(call: Call) -> bool {
         WriteRegister(address, _) => WRITABLE.contains(&address),
         ReadRegister(address) => (0xFF68..=0xFF6B).contains(&address),
         WriteOam(address, _) => address & 0xFF < 0xA0,
-        Pick(line, height) => line <= 143 && (height == 8 || height == 16),
+        Pick(line, tall) => line <= 143 && (tall == 8 || tall == 16),
         _ => true,
     }
 }
@@ -112,9 +114,10 @@ const NO_REPORT: Report = Report {
 /// Makes the call: its number, and what else it answers that a refusal fixes, as text.
 fn make(call: Call, s: State, m: &mut Memory) -> (u8, String) {
     match call {
-        Start(dmg, colour) => {
-            let t = ppu::start(dmg, colour, &mut m.vram, &mut m.oam, &mut m.a, &mut m.b);
-            let fresh = Ppu::look_fresh(colour, dmg).part_state(0);
+        Start(dmg, cgb) => {
+            let machine = Machine { dmg, cgb };
+            let t = ppu::start(machine, &mut m.vram, &mut m.oam, &mut m.a, &mut m.b);
+            let fresh = Ppu::look_fresh(cgb, dmg).part_state(0, cgb);
             (
                 t.number,
                 told(states::plain(&t.state) == fresh, "the fresh state"),
@@ -157,8 +160,8 @@ fn make(call: Call, s: State, m: &mut Memory) -> (u8, String) {
         BugWrite => (ppu::oam_bug_write(s, &mut m.oam), String::new()),
         BugRead => (ppu::oam_bug_read(s, &mut m.oam), String::new()),
         BugReadWrite => (ppu::oam_bug_read_write(s, &mut m.oam), String::new()),
-        Pick(line, height) => {
-            let t = ppu::pick(&m.oam, line, height);
+        Pick(line, tall) => {
+            let t = ppu::pick(&m.oam, line, tall);
             let empty = t.selection.count == 0 && t.selection.slots == rattle::sprite::blank();
             (t.number, told(t.number == 0 || empty, "an empty pick"))
         }
@@ -266,6 +269,35 @@ fn broken(s: &State, clause: usize) -> State {
     out
 }
 
+/// The ladder itself: lengths before the order of the state, that before the call's own test, on every input.
+pub fn ladder(bench: &mut Bench) -> Result<(), String> {
+    for number in 0..=255 {
+        for passed in [false, true] {
+            let wanted = if passed { 0 } else { number };
+            same(
+                wanted,
+                || own(passed, number),
+                || format!("own number {}, passed {}", number, passed),
+            )?;
+            bench.cases += 1;
+        }
+        for (sized, ordered, wanted) in [
+            (false, false, 1),
+            (false, true, 1),
+            (true, false, 2),
+            (true, true, number),
+        ] {
+            same(
+                wanted,
+                || lowest(sized, ordered, number),
+                || format!("sized {}, ordered {}, own {}", sized, ordered, number),
+            )?;
+            bench.cases += 1;
+        }
+    }
+    Ok(())
+}
+
 /// Every wrong length of every buffer, each with each: 0, one short, one long; in order and not, paced and not.
 pub fn lengths(bench: &mut Bench) -> Result<(), String> {
     let mut tally = Tally::default();
@@ -338,7 +370,7 @@ fn breaks(clause: usize, s: &mut State) {
         23 => {
             p.obj.pixels[(p.obj.head as usize + p.obj.len.clamp(1, 8) as usize - 1) % 8].index = 40
         }
-        24 => p.obj.pixels[p.obj.head as usize % 8].dmg = 2,
+        24 => p.obj.pixels[p.obj.head as usize % 8].obp = 2,
         25 => p.obj.pixels[p.obj.head as usize % 8].color = 4,
         26 => p.obj.pixels[p.obj.head as usize % 8].color = 255,
         27 => p.bg.pixels[(p.bg.head as usize + p.bg.len.clamp(1, 16) as usize - 1) % 16].color = 4,
@@ -417,7 +449,7 @@ pub fn disorder(bench: &mut Bench) -> Result<(), String> {
             s.pipe.bg.pixels[(s.pipe.bg.head as usize + k) % 16].color = 255;
         }
         for k in round as usize..8 {
-            s.pipe.obj.pixels[(s.pipe.obj.head as usize + k) % 8].dmg = 255;
+            s.pipe.obj.pixels[(s.pipe.obj.head as usize + k) % 8].obp = 255;
         }
         s.pipe.fetcher.waiting = Waiting::Nothing;
         s.pipe.fetcher.row = [255; 8];
@@ -498,8 +530,8 @@ pub fn moments(bench: &mut Bench) -> Result<(), String> {
     }
     let s = standing(bench, 0, 0);
     for line in 0..=255 {
-        for height in 0..=255 {
-            let number = check(bench, Pick(line, height), &s, &mut m, &kept)?;
+        for tall in 0..=255 {
+            let number = check(bench, Pick(line, tall), &s, &mut m, &kept)?;
             tally.0[number as usize] += 1;
         }
     }

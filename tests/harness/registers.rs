@@ -1,8 +1,7 @@
 //! The registers: the table, writes, blanking, reads, and the colour flag.
 
-use crate::bench::{fill, same, Bench};
+use crate::bench::{fill, same, Bench, Given};
 use crate::states;
-use given::machine::Machine;
 use rattle::registers::{kept_bits, read_register, set_colour, write_register};
 use rattle::state::State;
 
@@ -45,7 +44,7 @@ pub fn table(bench: &mut Bench) -> Result<(), String> {
 /// A write on both sides; the answer is whether the address is refused.
 fn write(bench: &mut Bench, s: &State, address: u16, value: u8) -> Result<State, String> {
     let [low, high] = address.to_le_bytes();
-    let given = |g: &mut Machine| g.answer([3, low, high, value, 0, 0, 0, 0])[0] == 4;
+    let given = |g: &mut Given| g.answer([3, low, high, value, 0, 0, 0, 0])[0] == 4;
     bench
         .compare_after(s, given, |s, m| {
             *s = write_register(*s, &mut m.a, &mut m.b, address, value);
@@ -110,7 +109,7 @@ pub fn blanking(bench: &mut Bench) -> Result<(), String> {
         wanted.beam.line = 0;
         wanted.beam.cycle = 4;
         wanted.beam.count = 0;
-        wanted.beam.on = true;
+        wanted.beam.turned = true;
         same(
             wanted,
             || after,

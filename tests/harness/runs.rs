@@ -1,9 +1,9 @@
 //! Runs: the oracle's lists of random calls, answered by both sides from one start, the state compared after every call.
 
-use crate::bench::{Bench, Memory};
+use crate::bench::{Bench, Given, Memory};
 use crate::step;
-use given::machine::Machine;
 use given::machine_lists;
+use rattle::hardware::Machine;
 use rattle::ppu;
 use rattle::sprite::SelectedSprite;
 use rattle::state::State;
@@ -24,8 +24,9 @@ pub fn answer(
     let mut out = [0; 16];
     match q[0] {
         1 => {
-            let (dmg, colour) = (q[1] != 0, q[2] != 0);
-            let t = ppu::start(dmg, colour, &mut m.vram, &mut m.oam, &mut m.a, &mut m.b);
+            let (dmg, cgb) = (q[1] != 0, q[2] != 0);
+            let machine = Machine { dmg, cgb };
+            let t = ppu::start(machine, &mut m.vram, &mut m.oam, &mut m.a, &mut m.b);
             (out[0], *s) = (t.number, t.state);
         }
         2 => return step::step(s, m, q[1]),
@@ -79,7 +80,7 @@ impl Pair<'_> {
     fn call(&mut self, q: [u8; 8]) -> Result<(), String> {
         let slots = &self.slots;
         let silent = q[0] == 11 || q[0] == 12;
-        let given = |g: &mut Machine| if silent { [0; 16] } else { g.answer(q) };
+        let given = |g: &mut Given| if silent { [0; 16] } else { g.answer(q) };
         self.state = self
             .bench
             .compare_on(&self.state, given, |s, m| answer(s, m, slots, q))?;
@@ -115,9 +116,9 @@ pub fn runs(bench: &mut Bench) -> Result<(), String> {
     while left > 0 {
         let count = left.min(LIST);
         let seed = bench.random.next();
-        bench.given = Machine::new();
+        bench.given = Given::new();
         let mut pair = Pair {
-            state: bench.given.ppu.part_state(0),
+            state: bench.given.state(),
             slots: Cell::new(rattle::sprite::blank()),
             bench: &mut *bench,
             found: None,

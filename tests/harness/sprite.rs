@@ -19,9 +19,8 @@ pub fn selects(bench: &mut Bench) -> Result<(), String> {
             &s,
             |g| g.ppu.part_select(),
             |s, m| {
-                let height = if s.regs.lcdc & 4 == 0 { 8 } else { 16 };
-                s.selection =
-                    rattle::sprite::select(&m.oam, s.beam.line, height, s.selection.slots);
+                let tall = if s.regs.lcdc & 4 == 0 { 8 } else { 16 };
+                s.selection = rattle::sprite::select(&m.oam, s.beam.line, tall, s.selection.slots);
             },
         )?;
     }

@@ -9,6 +9,12 @@ use rattle::hardware::Machine;
 use rattle::sprite::{SelectedSprite, Selection, Sprite};
 use rattle::state::{Beam, Fetcher, Palettes, Pipe, Registers, State, Waiting};
 
+/// A machine in colour mode.
+pub const COLOUR: Machine = Machine {
+    dmg: false,
+    cgb: true,
+};
+
 fn flag(random: &mut Random) -> bool {
     random.next() >> 63 == 1
 }
@@ -52,11 +58,11 @@ pub fn bg_pixel(random: &mut Random, live: bool) -> BgFifoPixel {
 }
 
 pub fn sprite_pixel(random: &mut Random, live: bool) -> SpriteFifoPixel {
-    let [color, dmg, index, priority] = (random.next() as u32).to_be_bytes();
+    let [color, obp, index, priority] = (random.next() as u32).to_be_bytes();
     SpriteFifoPixel {
         color: if live { color % 4 } else { color },
         palette: palette(random),
-        dmg: if live { dmg % 2 } else { dmg },
+        obp: if live { obp % 2 } else { obp },
         index: if live { index % 40 } else { index },
         priority: priority % 2 == 1,
     }
@@ -158,7 +164,7 @@ fn beam(random: &mut Random) -> Beam {
             random.next() as u16
         },
         level: flag(random),
-        on: flag(random),
+        turned: flag(random),
     }
 }
 
@@ -195,7 +201,7 @@ fn registers(random: &mut Random, b: &Beam) -> Registers {
         },
         vbk: random_below(random, 2),
         coord: flag(random),
-        colour: flag(random),
+        cgb: flag(random),
     }
 }
 
@@ -234,7 +240,10 @@ fn pipe(random: &mut Random) -> Pipe {
 pub fn in_order(random: &mut Random) -> State {
     let beam = beam(random);
     State {
-        machine: Machine { dmg: flag(random) },
+        machine: Machine {
+            dmg: flag(random),
+            cgb: flag(random),
+        },
         regs: registers(random, &beam),
         palettes: Palettes {
             bg: palette_set(random),
@@ -352,9 +361,9 @@ fn each_palette(f: &mut dyn FnMut(String, &mut dyn Cell), prefix: &str, p: &mut 
 
 /// Every field of a state under its name.
 pub fn each(s: &mut State, f: &mut dyn FnMut(String, &mut dyn Cell)) {
-    cells!(f, "", s; machine.dmg);
-    cells!(f, "", s.regs; lcdc, stat, scy, scx, ly, lyc, bgp, obp0, obp1, wy, wx, vbk, coord, colour);
-    cells!(f, "", s.beam; line, cycle, x, shown, count, end, level, on);
+    cells!(f, "", s; machine.dmg, machine.cgb);
+    cells!(f, "", s.regs; lcdc, stat, scy, scx, ly, lyc, bgp, obp0, obp1, wy, wx, vbk, coord, cgb);
+    cells!(f, "", s.beam; line, cycle, x, shown, count, end, level, turned);
     cells!(f, "", s.pipe; window, wrow, discard, fetcher.delay, fetcher.column, fetcher.waiting);
     for (k, color) in s.pipe.fetcher.row.iter_mut().enumerate() {
         f(format!("fetcher.row[{}]", k), color);
@@ -377,7 +386,7 @@ pub fn each(s: &mut State, f: &mut dyn FnMut(String, &mut dyn Cell)) {
     cells!(f, "sprite queue ", s.pipe.obj; len, head);
     for (k, pixel) in s.pipe.obj.pixels.iter_mut().enumerate() {
         let prefix = format!("sprite queue slot {} ", k);
-        cells!(f, prefix, pixel; color, dmg, index, priority);
+        cells!(f, prefix, pixel; color, obp, index, priority);
         each_palette(f, &prefix, &mut pixel.palette);
     }
     cells!(f, "selection ", s.selection; count);

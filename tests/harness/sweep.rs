@@ -1,7 +1,7 @@
 //! The sweep: one write of every register at every even cycle of four lines, and on to the end of the frame. The answers
 //! are compared step by step, the state at every line's end and at the last, the pictures at the last.
 
-use crate::bench::Bench;
+use crate::bench::{Bench, Given};
 use crate::{runs, states, step};
 use given::sweep::{self, CYCLES, FRAME, KINDS, LINES, WRITES};
 use rattle::sprite::SelectedSprite;
@@ -55,7 +55,7 @@ impl Sweep<'_> {
     }
 
     fn same_state(&mut self, s: &State) -> Result<(), String> {
-        let wanted = self.bench.given.ppu.part_state(self.bench.given.count);
+        let wanted = self.bench.given.state();
         let got = states::plain(s);
         if wanted == got {
             return Ok(());
@@ -141,7 +141,7 @@ impl Sweep<'_> {
     }
 
     fn kind(&mut self, kind: usize, stride: u64) -> Result<(), String> {
-        let mut s = self.bench.given.ppu.part_state(0);
+        let mut s = self.bench.given.state();
         for q in sweep::prologue(self.bench.seed, kind) {
             s = self.call(&s, q)?;
         }
@@ -166,7 +166,7 @@ impl Sweep<'_> {
 
 /// A write by its device, value, address and moment.
 fn named(s: &State, write: usize) -> String {
-    let device = match (s.machine.dmg, s.regs.colour) {
+    let device = match (s.machine.dmg, s.regs.cgb) {
         (true, _) => "DMG",
         (_, true) => "colour mode",
         _ => "outside colour mode",
@@ -178,7 +178,7 @@ fn named(s: &State, write: usize) -> String {
 
 pub fn sweep(bench: &mut Bench) -> Result<(), String> {
     let stride = bench.size.unwrap_or(STRIDE).max(1);
-    bench.given = given::machine::Machine::new();
+    bench.given = Given::new();
     let mut sweep = Sweep {
         bench,
         slots: Cell::new(rattle::sprite::blank()),

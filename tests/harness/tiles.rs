@@ -6,9 +6,9 @@ use rattle::sprite::Sprite;
 use rattle::tiles::{self, Fetch};
 
 fn fetch(bench: &mut Bench, f: Fetch) -> Result<(), String> {
-    let flags = f.colour as u8 | (f.window as u8) << 1;
+    let flags = f.cgb as u8 | (f.window as u8) << 1;
     let fetch = |[flags, lcdc, scx, scy, line, wrow, column]: [u8; 7]| Fetch {
-        colour: flags & 1 != 0,
+        cgb: flags & 1 != 0,
         lcdc,
         window: flags & 2 != 0,
         scx,
@@ -31,7 +31,7 @@ fn fetch(bench: &mut Bench, f: Fetch) -> Result<(), String> {
 fn random_fetch(bench: &mut Bench) -> Fetch {
     let [lcdc, scx, scy, line, wrow, column, flags, _] = bench.random.next().to_le_bytes();
     Fetch {
-        colour: flags & 1 != 0,
+        cgb: flags & 1 != 0,
         lcdc: if flags & 6 == 0 { lcdc } else { lcdc | 1 },
         window: flags & 8 != 0,
         scx,
@@ -54,7 +54,7 @@ pub fn fetches(bench: &mut Bench) -> Result<(), String> {
             for row in 0..8 {
                 let mut f = random_fetch(bench);
                 f.lcdc = f.lcdc & 0xA6 | bits & 0x59;
-                f.colour = bits & 2 != 0;
+                f.cgb = bits & 2 != 0;
                 f.window = bits & 4 != 0;
                 f.wrow = f.wrow & 0xF8 | row;
                 f.line = f.line & 0xF8 | row;
@@ -69,7 +69,7 @@ pub fn fetches(bench: &mut Bench) -> Result<(), String> {
             for column in 0..=255u8 {
                 let mut f = random_fetch(bench);
                 f.lcdc = f.lcdc & 0xAF | (kind & 1) << 6 | (kind & 2) << 3 | 1;
-                f.colour = kind & 4 != 0;
+                f.cgb = kind & 4 != 0;
                 f.window = true;
                 f.wrow = row;
                 f.column = column;
@@ -120,7 +120,7 @@ pub fn sprites(bench: &mut Bench) -> Result<(), String> {
         if i % 50_000 == 0 {
             bench.shuffle_vram();
         }
-        let (line, tall) = (bench.random.byte(), bench.random.of(&[0, 1]));
+        let (line, double) = (bench.random.byte(), bench.random.of(&[0, 1]));
         let x = if bench.random.once_in(3) {
             0
         } else {
@@ -134,22 +134,22 @@ pub fn sprites(bench: &mut Bench) -> Result<(), String> {
             tile: b[5],
             flags: b[6],
         };
-        let height = |b: [u8; 7]| if b[2] == 0 { 8 } else { 16 };
+        let tall = |b: [u8; 7]| if b[2] == 0 { 8 } else { 16 };
         bench.compare_bytes(
-            [line, x, tall, s.y, s.x, s.tile, s.flags],
+            [line, x, double, s.y, s.x, s.tile, s.flags],
             |b| {
                 format!(
-                    "{:?}, line {}, height {}, at x {}",
+                    "{:?}, line {}, {} tall, at x {}",
                     sprite(b),
                     b[0],
-                    height(b),
+                    tall(b),
                     b[1]
                 )
             },
-            |ppu, b| ppu.part_sprite_colors(&sprite(b), b[0], height(b), b[1]),
+            |ppu, b| ppu.part_sprite_colors(&sprite(b), b[0], tall(b), b[1]),
             |vram, b| {
                 let (line, x, s) = (b[0], b[1], sprite(b));
-                tiles::starts_at(s, x).then(|| tiles::sprite_colors(vram, s, line, height(b), x))
+                tiles::starts_at(s, x).then(|| tiles::sprite_colors(vram, s, line, tall(b), x))
             },
         )?;
     }

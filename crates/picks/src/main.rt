@@ -1,12 +1,13 @@
-// Reads OAM, a line and a height from standard input, 162 bytes, and prints what a search of that line picks.
+// Reads OAM, a line and how tall sprites are from standard input, 162 bytes, and prints what a search of that line picks.
 ghost use mathlib.Core.Path.{_≡_};
 ghost use Rattle.picks.specs.Request.{answerTo};
+use hardware::Machine;
 use libc::STDIN_FILENO;
 use libc::STDOUT_FILENO;
 use sprite::Picked;
 use sprite::SelectedSprite;
 
-// What a request asks for: its last two bytes are the line and the height, OAM is what stands before them.
+// What a request asks for: its last two bytes are the line and the sprites' height, OAM is what stands before them.
 fn answer(request: &[u8]) -> Picked
     ensures { λ r. ⌜ r ≡ answerTo (now (request .entry)) ⌝ }
 {
@@ -51,6 +52,7 @@ fn print_slots(slots: [SelectedSprite; 10], count: u8) {
     }
 }
 
+// The number of a refusal, or the picks.
 fn print_answer(answer: Picked) {
     if answer.number != 0 {
         print_line(b"refused ", answer.number);
@@ -62,9 +64,11 @@ fn print_answer(answer: Picked) {
     print_slots(slots, selection.count);
 }
 
-// One byte more than a request has tells a longer input from a whole one.
+// A request and one byte more, which tells a longer input from a whole one.
+const INPUT_BYTES: usize = Machine::OAM_BYTES + 3;
+
 fn main() {
-    let mut input = [0u8; 163];
+    let mut input = [0u8; INPUT_BYTES];
     let n = io::read_full(STDIN_FILENO, &mut input);
     print_answer(answer(&input[..n]));
 }

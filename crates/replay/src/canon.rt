@@ -15,10 +15,12 @@ use state::Registers;
 use state::State;
 use state::Waiting;
 
+// The digest after a word.
 fn word(h: u64, w: u16) -> u64 {
     wire::take_in(wire::take_in(h, (w % 256) as u8), (w / 256) as u8)
 }
 
+// The digest after a flag, 0 or 1.
 fn flag(h: u64, yes: bool) -> u64 {
     wire::take_in(h, yes as u8)
 }
@@ -46,10 +48,11 @@ fn registers(h: u64, r: Registers) -> u64 {
 fn flags(h: u64, s: State) -> u64 {
     let level = flag(h, s.beam.level);
     let coord = flag(level, s.regs.coord);
-    let colour = flag(coord, s.regs.colour);
-    flag(colour, s.machine.dmg)
+    let cgb = flag(coord, s.regs.cgb);
+    flag(cgb, s.machine.dmg)
 }
 
+// The beam, and last whether the display was just turned on.
 fn beam(h: u64, b: Beam) -> u64 {
     let line = wire::take_in(h, b.line);
     let cycle = word(line, b.cycle);
@@ -57,9 +60,10 @@ fn beam(h: u64, b: Beam) -> u64 {
     let shown = wire::take_in(x, b.shown);
     let end = word(shown, b.end);
     let count = word(end, b.count);
-    flag(count, b.on)
+    flag(count, b.turned)
 }
 
+// The byte of an attribute.
 fn attribute(h: u64, t: BgAttribute) -> u64 {
     wire::take_in(h, t.bits)
 }
@@ -76,10 +80,12 @@ fn fetcher(h: u64, f: Fetcher) -> u64 {
     }
 }
 
+// The four words of a palette.
 fn palette(h: u64, p: ColorPalette) -> u64 {
     word(word(word(word(h, p.c0), p.c1), p.c2), p.c3)
 }
 
+// A queued pixel of the background.
 fn bg_pixel(h: u64, p: BgFifoPixel) -> u64 {
     let color = wire::take_in(h, p.color);
     palette(flag(color, p.priority), p.palette)
@@ -100,10 +106,11 @@ fn bg_queue(start: u64, q: BgFifo) -> u64 {
     h
 }
 
+// A queued pixel of a sprite.
 fn sprite_pixel(h: u64, p: SpriteFifoPixel) -> u64 {
     let color = wire::take_in(h, p.color);
-    let dmg = wire::take_in(color, p.dmg);
-    let index = wire::take_in(dmg, p.index);
+    let obp = wire::take_in(color, p.obp);
+    let index = wire::take_in(obp, p.index);
     palette(flag(index, p.priority), p.palette)
 }
 
@@ -122,6 +129,7 @@ fn sprite_queue(start: u64, q: SpriteFifo) -> u64 {
     h
 }
 
+// The pipe: the window, the discard, the fetcher and both queues.
 fn pipe(h: u64, p: Pipe) -> u64 {
     let window = flag(h, p.window);
     let wrow = wire::take_in(window, p.wrow);
@@ -141,6 +149,7 @@ pub fn five(s: SelectedSprite) -> [u8; 5] {
     ]
 }
 
+// A selected sprite.
 fn slot(h: u64, s: SelectedSprite) -> u64 {
     let bytes = five(s);
     wire::take_all(h, &bytes)
@@ -169,6 +178,7 @@ fn palettes(h: u64, set: PaletteSet) -> u64 {
     wire::take_all(auto, &bytes)
 }
 
+// The digest of all of a state.
 pub fn digest_of(s: State) -> u64 {
     let regs = registers(wire::nothing(), s.regs);
     let first = beam(flags(regs, s), s.beam);

@@ -19,12 +19,16 @@ pub struct Reply {
 
 // A device that is not DMG, outside colour mode. A pick of no OAM is refused, and its slots are empty.
 pub fn fresh(
-    vram: &mut [u8; 16384],
-    oam: &mut [u8; 160],
+    vram: &mut [u8; Machine::VRAM_BYTES],
+    oam: &mut [u8; Machine::OAM_BYTES],
     a: &mut [u8; Machine::PICTURE_BYTES],
     b: &mut [u8; Machine::PICTURE_BYTES],
 ) -> Desk {
-    let started = ppu::start(false, false, vram, oam, a, b);
+    let machine = Machine {
+        dmg: false,
+        cgb: false,
+    };
+    let started = ppu::start(machine, vram, oam, a, b);
     let state = started.state;
     let picked = ppu::pick(&[], 0, 0);
     let selection = picked.selection;
@@ -57,22 +61,28 @@ fn digested(desk: Desk, h: u64) -> Reply {
     }
 }
 
+// A start of the machine that a request names.
 fn start(
     desk: Desk,
-    vram: &mut [u8; 16384],
-    oam: &mut [u8; 160],
+    vram: &mut [u8; Machine::VRAM_BYTES],
+    oam: &mut [u8; Machine::OAM_BYTES],
     a: &mut [u8; Machine::PICTURE_BYTES],
     b: &mut [u8; Machine::PICTURE_BYTES],
     q: [u8; 8],
 ) -> Reply {
-    let started = ppu::start(q[1] != 0, q[2] != 0, vram, oam, a, b);
+    let machine = Machine {
+        dmg: q[1] != 0,
+        cgb: q[2] != 0,
+    };
+    let started = ppu::start(machine, vram, oam, a, b);
     moved(desk, started.number, started.state)
 }
 
+// A step: its report in an answer's bytes, the count in the second half.
 fn step(
     desk: Desk,
-    vram: &[u8; 16384],
-    oam: &[u8; 160],
+    vram: &[u8; Machine::VRAM_BYTES],
+    oam: &[u8; Machine::OAM_BYTES],
     a: &mut [u8; Machine::PICTURE_BYTES],
     b: &mut [u8; Machine::PICTURE_BYTES],
     cycles: u8,
@@ -109,6 +119,7 @@ fn step(
     }
 }
 
+// A word, low byte first.
 fn word_of(low: u8, high: u8) -> u16 {
     low as u16 + high as u16 * 256
 }
@@ -118,6 +129,7 @@ fn address_of(q: [u8; 8]) -> u16 {
     word_of(q[1], q[2])
 }
 
+// A register write.
 fn write_register(
     desk: Desk,
     a: &mut [u8; Machine::PICTURE_BYTES],
@@ -128,27 +140,32 @@ fn write_register(
     moved(desk, written.number, written.state)
 }
 
+// A register read.
 fn read_register(desk: Desk, q: [u8; 8]) -> Reply {
     let read = ppu::read_register(desk.state, address_of(q));
     told(desk, read.number, read.value)
 }
 
-fn write_vram(desk: Desk, vram: &mut [u8; 16384], q: [u8; 8]) -> Reply {
+// A VRAM write.
+fn write_vram(desk: Desk, vram: &mut [u8; Machine::VRAM_BYTES], q: [u8; 8]) -> Reply {
     let number = ppu::write_vram(desk.state, vram, address_of(q), q[3]);
     told(desk, number, 0)
 }
 
-fn write_oam(desk: Desk, oam: &mut [u8; 160], q: [u8; 8]) -> Reply {
+// An OAM write.
+fn write_oam(desk: Desk, oam: &mut [u8; Machine::OAM_BYTES], q: [u8; 8]) -> Reply {
     let number = ppu::write_oam(oam, address_of(q), q[3]);
     told(desk, number, 0)
 }
 
+// The colour flag.
 fn set_colour(desk: Desk, flag: u8) -> Reply {
     let set = ppu::set_colour(desk.state, flag != 0);
     moved(desk, set.number, set.state)
 }
 
-fn corrupt(desk: Desk, oam: &mut [u8; 160], op: u8) -> Reply {
+// A corruption of OAM, by its request's number.
+fn corrupt(desk: Desk, oam: &mut [u8; Machine::OAM_BYTES], op: u8) -> Reply {
     let number = match op {
         8 => ppu::oam_bug_write(desk.state, oam),
         9 => ppu::oam_bug_read(desk.state, oam),
@@ -170,8 +187,8 @@ fn pictures<'a>(s: State, oam: &[u8], a: &'a [u8], b: &'a [u8]) -> u64 {
 }
 
 // A pick: its slots are kept, empty ones where it is refused.
-fn pick(desk: Desk, oam: &[u8; 160], line: u8, height: u8) -> Reply {
-    let picked = ppu::pick(oam, line, height);
+fn pick(desk: Desk, oam: &[u8; Machine::OAM_BYTES], line: u8, tall: u8) -> Reply {
+    let picked = ppu::pick(oam, line, tall);
     let selection = picked.selection;
     let slots = selection.slots;
     let mut next = desk;
@@ -179,6 +196,7 @@ fn pick(desk: Desk, oam: &[u8; 160], line: u8, height: u8) -> Reply {
     told(next, picked.number, selection.count)
 }
 
+// The answer to a request that is not known.
 fn unknown(desk: Desk) -> Reply {
     told(desk, 255, 0)
 }
@@ -219,7 +237,12 @@ fn look(desk: Desk) -> Reply {
 }
 
 // A request that lends one buffer at most.
-fn small(desk: Desk, vram: &mut [u8; 16384], oam: &mut [u8; 160], q: [u8; 8]) -> Reply {
+fn small(
+    desk: Desk,
+    vram: &mut [u8; Machine::VRAM_BYTES],
+    oam: &mut [u8; Machine::OAM_BYTES],
+    q: [u8; 8],
+) -> Reply {
     match q[0] {
         4 => read_register(desk, q),
         5 => write_vram(desk, vram, q),
@@ -234,10 +257,11 @@ fn small(desk: Desk, vram: &mut [u8; 16384], oam: &mut [u8; 160], q: [u8; 8]) ->
     }
 }
 
+// The answer to any request.
 pub fn answer(
     desk: Desk,
-    vram: &mut [u8; 16384],
-    oam: &mut [u8; 160],
+    vram: &mut [u8; Machine::VRAM_BYTES],
+    oam: &mut [u8; Machine::OAM_BYTES],
     a: &mut [u8; Machine::PICTURE_BYTES],
     b: &mut [u8; Machine::PICTURE_BYTES],
     q: [u8; 8],

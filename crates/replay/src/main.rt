@@ -15,8 +15,8 @@ struct Step {
 // Answers `count` requests of a buffer from byte `first` on, in order.
 fn answer_some(
     start: Desk,
-    vram: &mut [u8; 16384],
-    oam: &mut [u8; 160],
+    vram: &mut [u8; Machine::VRAM_BYTES],
+    oam: &mut [u8; Machine::OAM_BYTES],
     a: &mut [u8; Machine::PICTURE_BYTES],
     b: &mut [u8; Machine::PICTURE_BYTES],
     requests: &[u8; 65536],
@@ -44,8 +44,8 @@ fn answer_some(
 // Answers `count` requests from byte `first` on and writes the answers; `more` says whether it could.
 fn half(
     start: Desk,
-    vram: &mut [u8; 16384],
-    oam: &mut [u8; 160],
+    vram: &mut [u8; Machine::VRAM_BYTES],
+    oam: &mut [u8; Machine::OAM_BYTES],
     a: &mut [u8; Machine::PICTURE_BYTES],
     b: &mut [u8; Machine::PICTURE_BYTES],
     requests: &[u8; 65536],
@@ -63,8 +63,8 @@ fn half(
 // Reads a buffer of requests and writes its answers, which fill two. A part of a request at the end of the input is left out.
 fn turn(
     start: Desk,
-    vram: &mut [u8; 16384],
-    oam: &mut [u8; 160],
+    vram: &mut [u8; Machine::VRAM_BYTES],
+    oam: &mut [u8; Machine::OAM_BYTES],
     a: &mut [u8; Machine::PICTURE_BYTES],
     b: &mut [u8; Machine::PICTURE_BYTES],
 ) -> Step {
@@ -85,8 +85,8 @@ fn turn(
 
 // Nothing says that an input ends, so the turns are counted down from a number that no run uses up.
 fn run(
-    vram: &mut [u8; 16384],
-    oam: &mut [u8; 160],
+    vram: &mut [u8; Machine::VRAM_BYTES],
+    oam: &mut [u8; Machine::OAM_BYTES],
     a: &mut [u8; Machine::PICTURE_BYTES],
     b: &mut [u8; Machine::PICTURE_BYTES],
 ) {
@@ -102,9 +102,10 @@ fn run(
     }
 }
 
+// VRAM and OAM are 0 at the start, and both pictures are white.
 fn main() {
-    let mut vram = [0u8; 16384];
-    let mut oam = [0u8; 160];
+    let mut vram = [0u8; Machine::VRAM_BYTES];
+    let mut oam = [0u8; Machine::OAM_BYTES];
     let mut a = [255u8; Machine::PICTURE_BYTES];
     let mut b = [255u8; Machine::PICTURE_BYTES];
     run(&mut vram, &mut oam, &mut a, &mut b);

@@ -45,9 +45,9 @@ fn unchanged(bench: Bench, bytes: [u8; 8]) -> Reply
 }
 
 // Writes a byte of OAM.
-fn write_oam(oam: &mut [u8; 160], address: u8, value: u8) -> [u8; 8] {
+fn write_oam(oam: &mut [u8; Machine::OAM_BYTES], address: u8, value: u8) -> [u8; 8] {
     let i = address as usize;
-    if i >= 160 {
+    if i >= Machine::OAM_BYTES {
         return plain::five(4, 0, 0, 0, 0);
     }
     oam[i] = value;
@@ -55,11 +55,11 @@ fn write_oam(oam: &mut [u8; 160], address: u8, value: u8) -> [u8; 8] {
 }
 
 // A pick: its slots are kept, empty ones where it is refused.
-fn pick(bench: Bench, oam: &[u8; 160], line: u8, height: u8) -> Reply
+fn pick(bench: Bench, oam: &[u8; Machine::OAM_BYTES], line: u8, tall: u8) -> Reply
     requires { ⌜ Sound bench ⌝ }
     ensures { λ r. ⌜ Sound (r .bench) ⌝ }
 {
-    let picked = sprite::pick(oam, line, height);
+    let picked = sprite::pick(oam, line, tall);
     let selection = picked.selection;
     let slots = selection.slots;
     let bytes = plain::five(picked.number, selection.count, 0, 0, 0);
@@ -110,9 +110,10 @@ fn switch(bench: Bench) -> Reply
     Reply { bench: next, bytes }
 }
 
+// The answer to any request.
 pub fn answer(
     bench: Bench,
-    oam: &mut [u8; 160],
+    oam: &mut [u8; Machine::OAM_BYTES],
     a: &mut [u8; Machine::PICTURE_BYTES],
     b: &mut [u8; Machine::PICTURE_BYTES],
     q: [u8; 8],

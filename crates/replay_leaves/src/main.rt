@@ -18,7 +18,7 @@ struct Step {
 // Answers the first `count` requests of a buffer, in order.
 fn answer_all(
     start: Bench,
-    oam: &mut [u8; 160],
+    oam: &mut [u8; Machine::OAM_BYTES],
     a: &mut [u8; Machine::PICTURE_BYTES],
     b: &mut [u8; Machine::PICTURE_BYTES],
     requests: &[u8; 65536],
@@ -44,7 +44,7 @@ fn answer_all(
 // Reads a buffer of requests and writes its answers. A part of a request at the end of the input is left out.
 fn turn(
     start: Bench,
-    oam: &mut [u8; 160],
+    oam: &mut [u8; Machine::OAM_BYTES],
     a: &mut [u8; Machine::PICTURE_BYTES],
     b: &mut [u8; Machine::PICTURE_BYTES],
 ) -> Step
@@ -67,7 +67,7 @@ fn turn(
 
 // Nothing says that an input ends, so the turns are counted down from a number that no run uses up.
 fn run(
-    oam: &mut [u8; 160],
+    oam: &mut [u8; Machine::OAM_BYTES],
     a: &mut [u8; Machine::PICTURE_BYTES],
     b: &mut [u8; Machine::PICTURE_BYTES],
 ) {
@@ -85,7 +85,7 @@ fn run(
 
 // OAM is 0 at the start, and both pictures are white.
 fn main() {
-    let mut oam = [0u8; 160];
+    let mut oam = [0u8; Machine::OAM_BYTES];
     let mut a = [255u8; Machine::PICTURE_BYTES];
     let mut b = [255u8; Machine::PICTURE_BYTES];
     run(&mut oam, &mut a, &mut b);

@@ -17,6 +17,7 @@ fn ports(set: PaletteSet) -> [u8; 8]
     plain::five(set.read_index(), set.read_color_data(), 0, 0, 0)
 }
 
+// A write to the index port.
 fn write_index(set: PaletteSet, v: u8) -> Answered
     ensures { λ r. ⌜ r .set .index < 64 ⌝ }
 {
@@ -25,6 +26,7 @@ fn write_index(set: PaletteSet, v: u8) -> Answered
     Answered { set: next, bytes }
 }
 
+// A write to the data port.
 fn write_data(set: PaletteSet, v: u8) -> Answered
     requires { ⌜ set .index < 64 ⌝ }
     ensures { λ r. ⌜ r .set .index < 64 ⌝ }
@@ -44,11 +46,13 @@ fn raw_of(p: ColorPalette, c: u8) -> u16 {
     }
 }
 
+// Colour number c of a palette.
 fn color_of(set: PaletteSet, p: u8, c: u8) -> [u8; 8] {
     let palette = set.get_palette(p);
     plain::color_and_raw(palette.get_color(c), raw_of(palette, c))
 }
 
+// The palettes with one of them made greys.
 fn greys(set: PaletteSet, p: u8) -> PaletteSet
     requires { ⌜ set .index < 64 ⌝ }
     ensures { λ r. ⌜ r .index < 64 ⌝ }
@@ -72,6 +76,7 @@ fn unchanged(set: PaletteSet, bytes: [u8; 8]) -> Answered
     Answered { set, bytes }
 }
 
+// The answer to a request to the palettes.
 pub fn answer(set: PaletteSet, q: [u8; 8]) -> Answered
     requires { ⌜ set .index < 64 ⌝ }
     ensures { λ r. ⌜ r .set .index < 64 ⌝ }

@@ -7,6 +7,7 @@ use crate::plain;
 use colors::Color;
 use hardware::Machine;
 
+// Makes both pictures white.
 fn clear(a: &mut [u8; Machine::PICTURE_BYTES], b: &mut [u8; Machine::PICTURE_BYTES]) -> [u8; 8] {
     lcd::fill(a, 255);
     lcd::fill(b, 255);

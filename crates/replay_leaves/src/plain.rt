@@ -18,6 +18,7 @@ pub fn color_and_raw(c: Color, raw: u16) -> [u8; 8] {
     five(c.r, c.g, c.b, (raw % 256) as u8, (raw / 256) as u8)
 }
 
+// The parts of an attribute byte.
 fn attribs(byte: u8) -> [u8; 8] {
     let a = BgAttribute::new(byte);
     five(
@@ -39,6 +40,7 @@ fn sprite_of(q: [u8; 8]) -> Sprite {
     }
 }
 
+// The parts of a sprite's entry.
 fn sprite_parts(s: Sprite) -> [u8; 8] {
     [
         s.screen_y(),
@@ -52,32 +54,37 @@ fn sprite_parts(s: Sprite) -> [u8; 8] {
     ]
 }
 
-fn in_range(y: u8, line: u8, height: u8) -> [u8; 8] {
+// Whether a line meets a sprite at y, so tall.
+fn in_range(y: u8, line: u8, tall: u8) -> [u8; 8] {
     let s = Sprite {
         y,
         x: 0,
         tile: 0,
         flags: 0,
     };
-    five(s.in_range(line, height) as u8, 0, 0, 0, 0)
+    five(s.in_range(line, tall) as u8, 0, 0, 0, 0)
 }
 
+// A byte of an entry, and the entry after a write there.
 fn at_offset(s: Sprite, offset: u8, data: u8) -> [u8; 8] {
     let before = s.get_at_offset(offset % 4);
     let after = s.set_at_offset(offset % 4, data);
     five(before, after.y, after.x, after.tile, after.flags)
 }
 
+// The colour of a word, and the word of it again.
 fn from_raw(low: u8, high: u8) -> [u8; 8] {
     let color = Color::from_raw(low as u16 + high as u16 * 256);
     color_and_raw(color, color.to_raw())
 }
 
+// The word of a colour.
 fn to_raw(c: Color) -> [u8; 8] {
     let raw = c.to_raw();
     five((raw % 256) as u8, (raw / 256) as u8, 0, 0, 0)
 }
 
+// A colour as the display mixes it.
 pub fn mix(c: Color) -> [u8; 8] {
     let p = lcd::mixed(c);
     five(p.red, p.green, p.blue, 0, 0)
@@ -92,6 +99,7 @@ fn color_of(q: [u8; 8]) -> Color {
     }
 }
 
+// The shade of a colour, modulo 4, by a palette byte.
 fn shade(palette: u8, color: u8) -> [u8; 8] {
     five(colors::shade_of(palette, color % 4), 0, 0, 0, 0)
 }

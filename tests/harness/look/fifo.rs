@@ -52,7 +52,7 @@ impl SpriteFifo {
             *self.pixels.push_back() = SpriteFifoPixel {
                 color: pixel.color,
                 palette: ColorPalette::part_new(&pixel.palette),
-                dmg_palette: pixel.dmg,
+                dmg_palette: pixel.obp,
                 index: pixel.index,
                 oam_bg_priority: pixel.priority,
             };
@@ -78,7 +78,7 @@ impl SpriteFifoPixel {
         rattle::fifo::SpriteFifoPixel {
             color: self.color,
             palette: self.palette.part(),
-            dmg: self.dmg_palette,
+            obp: self.dmg_palette,
             index: self.index,
             priority: self.oam_bg_priority,
         }

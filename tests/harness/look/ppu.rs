@@ -1,6 +1,6 @@
 
 // Appended at build time: between the given machine and the Rattle state, field by field, and the given parts that are
-// private. The count of stored places is no part of the given machine.
+// private. The count of stored places and whether the start wanted colour mode are no part of the given machine.
 
 pub mod more {
     pub use super::fifo::{BgFifo, SpriteFifo};
@@ -8,7 +8,7 @@ pub mod more {
 }
 
 impl Ppu {
-    /// Every field but the count, VRAM, OAM and the pictures.
+    /// Every field but the count, the wanted colour mode, VRAM, OAM and the pictures.
     pub fn part_set(&mut self, s: &rattle::state::State) {
         let r = &s.regs;
         self.lcd_control = LcdControl::from_bits_truncate(r.lcdc);
@@ -23,7 +23,7 @@ impl Ppu {
         self.windows_x = r.wx;
         self.vram_bank = r.vbk;
         self.sprite_priority_mode = fifo::part_mode(r.coord);
-        self.is_cgb_mode = r.colour;
+        self.is_cgb_mode = r.cgb;
         self.config = GameBoyConfig {
             is_dmg: s.machine.dmg,
         };
@@ -38,7 +38,7 @@ impl Ppu {
         self.lcd.part_set_shown(b.shown);
         self.mode_3_end_cycle = b.end;
         self.stat_interrupt_line = b.level;
-        self.lcd_turned_on = b.on;
+        self.lcd_turned_on = b.turned;
     }
 
     pub fn part_set_selection(&mut self, l: &rattle::sprite::Selection) {
@@ -63,7 +63,7 @@ impl Ppu {
     }
 
     /// The state in its plain form: queues from slot 0 on, 0s where nothing stands.
-    pub fn part_state(&self, count: u16) -> rattle::state::State {
+    pub fn part_state(&self, count: u16, cgb: bool) -> rattle::state::State {
         use rattle::bg_attribs::BgAttribute;
         use rattle::state::{Beam, Fetcher, Palettes, Pipe, Registers, State, Waiting};
         let coord = self.sprite_priority_mode == SpritePriorityMode::ByCoord;
@@ -75,6 +75,7 @@ impl Ppu {
         State {
             machine: rattle::hardware::Machine {
                 dmg: self.config.is_dmg,
+                cgb,
             },
             regs: Registers {
                 lcdc: self.lcd_control.bits(),
@@ -90,7 +91,7 @@ impl Ppu {
                 wx: self.windows_x,
                 vbk: self.vram_bank,
                 coord,
-                colour: self.is_cgb_mode,
+                cgb: self.is_cgb_mode,
             },
             palettes: Palettes {
                 bg: self.cgb_bg_palettes.part(),
@@ -121,7 +122,7 @@ impl Ppu {
                 count,
                 end: self.mode_3_end_cycle,
                 level: self.stat_interrupt_line,
-                on: self.lcd_turned_on,
+                turned: self.lcd_turned_on,
             },
         }
     }
@@ -156,7 +157,7 @@ impl Ppu {
 
     /// `fetch_bg` of a fetch.
     pub fn part_fetch_bg(&mut self, f: &rattle::tiles::Fetch) -> ([u8; 8], u8) {
-        self.is_cgb_mode = f.colour;
+        self.is_cgb_mode = f.cgb;
         self.lcd_control = LcdControl::from_bits_truncate(f.lcdc);
         self.is_drawing_window = f.window;
         self.scroll_x = f.scx;
@@ -173,11 +174,11 @@ impl Ppu {
         &mut self,
         s: &rattle::sprite::Sprite,
         line: u8,
-        height: u8,
+        tall: u8,
         x: u8,
     ) -> Option<[u8; 8]> {
-        let tall = if height == 16 { 4 } else { 0 };
-        self.lcd_control = LcdControl::from_bits_truncate(2 + tall);
+        let bit = if tall == 16 { 4 } else { 0 };
+        self.lcd_control = LcdControl::from_bits_truncate(2 + bit);
         self.selected_oam[0] =
             SelectedSprite::part_new(&rattle::sprite::SelectedSprite { sprite: *s, index: 0 });
         self.selected_oam_size = 1;

@@ -21,7 +21,10 @@ request-at-requires : tie.Need-request-at-requires Inv-loop μ-loop
 request-at-requires c κs = omega arith
 
 answer-requires : tie.Need-answer-requires Inv-loop μ-loop
-answer-requires c κs = c .before .before .before .before .before .loop .inv .1
+answer-requires c κs =
+    let read = c .before .before in
+    let asked = read .before .before in
+    asked .before .loop .inv .1
 
 mul-put : tie.Need-mul-put Inv-loop μ-loop
 mul-put c = omega arith
@@ -36,7 +39,13 @@ loop-less : tie.Need-loop-less Inv-loop μ-loop
 loop-less c = omega arith
 
 loop-again : tie.Need-loop-again Inv-loop μ-loop
-loop-again c = (omega (arith, c .before .before .before .before .before .before .before .before .before .before .loop .inv .0), c .before .before .before .before .answer .ensures)
+loop-again c =
+    let put = c .before .before in
+    let answered = put .before .before in
+    let read = answered .before .before in
+    let asked = read .before .before in
+    let begun = asked .before .before in
+    (omega (arith, begun .loop .inv .0), answered .answer .ensures)
 
 returns : tie.Need-returns Inv-loop μ-loop
 returns c = c .before .loop .inv .1

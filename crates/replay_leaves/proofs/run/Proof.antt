@@ -17,7 +17,9 @@ loop-holds : tie.Need-loop-holds Inv-loop μ-loop
 loop-holds c = c .fresh .ensures
 
 turn-requires : tie.Need-turn-requires Inv-loop μ-loop
-turn-requires c κs = c .before .before .before .before .loop .inv
+turn-requires c κs =
+    let tested = c .before .before in
+    tested .before .before .loop .inv
 
 returns : tie.Need-returns Inv-loop μ-loop
 returns c = tt
@@ -29,7 +31,9 @@ loop-less : tie.Need-loop-less Inv-loop μ-loop
 loop-less c = omega arith
 
 loop-again : tie.Need-loop-again Inv-loop μ-loop
-loop-again c = c .before .before .before .turn .ensures
+loop-again c =
+    let turned = c .before .before in
+    turned .before .turn .ensures
 
 returns-2 : tie.Need-returns-2 Inv-loop μ-loop
 returns-2 c = tt

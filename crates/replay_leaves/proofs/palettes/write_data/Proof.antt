@@ -1,17 +1,34 @@
 -- `palettes::write_data` keeps the index within the palettes.
-use Rattle.replay_leaves.proofs.Index.{after-data}
+use mathlib.Core.Path.{_≡_}
+use mathlib.Core.Bool.{Bool, true, false}
+use Prim.Native.Nat.{ℕ, _<_}
+use native.Mathlib.Omega.{arith}
 use borrow.Author.Needs.{needs}
+use Rattle.colors.specs.Palettes.{dataWritten, next}
+use Rattle.colors.specs.declared.PaletteSet.{PaletteSet}
 use Rattle.replay_leaves.proofs.palettes.write_data.Statement.{statement}
 use Rattle.replay_leaves.proofs.palettes.write_data.Tie as tie
+
+next-below : (auto : Bool) (i : ℕ) → i < 64 → next auto i < 64
+next-below true i h = omega arith
+next-below false i h = h
+
+after-data : {r : PaletteSet} (s : PaletteSet) (v : ℕ) → s .index < 64 → r ≡ dataWritten s v → r .index < 64
+after-data s v h e = rw e (next-below (s .auto) (s .index) h)
 
 write-color-data-requires : tie.Need-write-color-data-requires
 write-color-data-requires c κs = search needs
 
 ports-requires : tie.Need-ports-requires
-ports-requires c κs = after-data (c .before .args .set) (c .before .args .v) (c .before .pre) (c .write-color-data .ensures)
+ports-requires c κs =
+    let start = c .before in
+    after-data (start .args .set) (start .args .v) (start .pre) (c .write-color-data .ensures)
 
 returns : tie.Need-returns
-returns c = after-data (c .before .before .args .set) (c .before .before .args .v) (c .before .before .pre) (c .before .write-color-data .ensures)
+returns c =
+    let written = c .before in
+    let start = written .before in
+    after-data (start .args .set) (start .args .v) (start .pre) (written .write-color-data .ensures)
 
 pub write-data-spec : {M : Type 1} → statement M
 write-data-spec = tie.close (tie.spec write-color-data-requires ports-requires returns)

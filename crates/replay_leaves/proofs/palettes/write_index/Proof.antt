@@ -1,8 +1,15 @@
 -- `palettes::write_index` puts the index within the palettes.
-use Rattle.replay_leaves.proofs.Index.{after-index}
+use mathlib.Core.Path.{_≡_}
+use Prim.Native.Nat.{ℕ, _<_}
+use native.Mathlib.Omega.{arith}
 use borrow.Author.Needs.{needs}
+use Rattle.colors.specs.Palettes.{indexWritten}
+use Rattle.colors.specs.declared.PaletteSet.{PaletteSet}
 use Rattle.replay_leaves.proofs.palettes.write_index.Statement.{statement}
 use Rattle.replay_leaves.proofs.palettes.write_index.Tie as tie
+
+after-index : {r : PaletteSet} (s : PaletteSet) (v : ℕ) → r ≡ indexWritten s v → r .index < 64
+after-index s v e = rw e (omega arith)
 
 write-index-requires : tie.Need-write-index-requires
 write-index-requires c κs = search needs
@@ -14,7 +21,9 @@ five-requires : tie.Need-five-requires
 five-requires c κs = search needs
 
 returns : tie.Need-returns
-returns c = after-index (c .before .before .before .args .set) (c .before .before .before .args .v) (c .before .before .write-index .ensures)
+returns c =
+    let written = c .before .before in
+    after-index (written .before .args .set) (written .before .args .v) (written .write-index .ensures)
 
 pub write-index-spec : {M : Type 1} → statement M
 write-index-spec =
