@@ -1,7 +1,7 @@
 -- The draws of a step are draws under the window's own condition, so what holds under any condition holds of them.
 use mathlib.Core.Path.{_≡_, refl, sym, ap, _∙_}
 use mathlib.Core.Bool.{Bool, true}
-use mathlib.Core.Logic.{_⊎_, ⊎-elim}
+use mathlib.Core.Logic.{_⊎_}
 use mathlib.Core.List.{List, [], _∷_}
 use Prim.Native.Nat.{ℕ, zero, suc, _+_, _≤_}
 use lib.ListN.{length}
@@ -12,8 +12,8 @@ use Rattle.pipe.specs.Window.{opened}
 use Rattle.draw.specs.Draw.{drawn}
 use Rattle.burst.specs.Burst.{Burst, burst}
 use Rattle.burst.proofs.Ways.{burst-in, burst-out, burst-none}
-use Rattle.bound.specs.Potential.{left, Paced, Steady, Ended, drawsIf}
-use Rattle.bound.proofs.Line.{draws-cases, draws-fall, draws-window, draws-paced, draws-loose, draws-end}
+use Rattle.bound.specs.Potential.{left, Paced, Steady, drawsIf}
+use Rattle.bound.proofs.Line.{draws-cases, draws-fall, draws-window, draws-paced, draws-loose}
 
 -- whether the window is open at each of n draws
 unfoldable openings : ℕ → List ℕ → State → List Bool
@@ -61,9 +61,3 @@ module _ (n : ℕ) (vram : List ℕ) (s : State) where
       → (burst n vram s .state .pipe .window ≡ true) ⊎ (left (burst n vram s .state) + n ≤ left s)
   burst-loose f o m =
       carried (λ (k : ℕ) (u : State). (u .pipe .window ≡ true) ⊎ (left u + k ≤ left s)) (draws-loose (openings n vram s) vram s f o (stayed m))
-
-  -- a run that left mode 3 ended the line
-  pub burst-ended : Fine s → modeOf (s .regs .stat) ≡ 3 → (modeOf (burst n vram s .state .regs .stat) ≡ 3 → ⊥) → Ended (burst n vram s .state)
-  burst-ended f m out =
-      ⊎-elim (λ k. absurd (out k)) (λ e. e)
-      (carried (λ (k : ℕ) (u : State). (modeOf (u .regs .stat) ≡ 3) ⊎ Ended u) (draws-end (openings n vram s) vram s f m))

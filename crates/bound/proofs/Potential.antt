@@ -16,14 +16,14 @@ use Rattle.pipe.proofs.Ways.{Enters, windowed-cases}
 use Rattle.draw.specs.Draw.{fedPipe, drawnIf}
 use Rattle.draw.specs.declared.Drawn.{Drawn}
 use Rattle.draw.proofs.Ways.{drawn-cases}
-use Rattle.bound.specs.Potential.{waits, filled, entry, leftAt, left, Paced, Steady, Goes, Ended}
+use Rattle.bound.specs.Potential.{waits, filled, entryCost, leftAt, left, Paced, Steady, Goes, Ended}
 use Rattle.bound.proofs.Filling.{waits-most, entry-short, Fed, fed-pipe}
 
 -- the bounds of the number itself
 pub left-any : (s : State) → s .pipe .discard ≤ 7 → left s ≤ 204
 left-any s h = by (s .pipe .window)
   where
-    by : (b : Bool) → (width - s .beam .x) + s .pipe .discard + (15 - filled (s .pipe)) + entry b ≤ 204
+    by : (b : Bool) → (width - s .beam .x) + s .pipe .discard + (15 - filled (s .pipe)) + entryCost b ≤ 204
     by true = omega arith
     by false = omega arith
 
@@ -90,8 +90,8 @@ module _ (allowed : Bool) (vram : List ℕ) (s : State) (f : Fine s) where
       rises : 16 - filled q ≤ 15 - filled p
       rises = fed .rises o low
 
-      same : entry (q .window) ≡ entry (p .window)
-      same = ap entry (fed .window)
+      same : entryCost (q .window) ≡ entryCost (p .window)
+      same = ap entryCost (fed .window)
 
       pops : 8 < q .bg .len → 15 - ((q .bg .len - 1) + waits (q .fetcher .waiting) + (8 - q .fetcher .delay)) ≤ 15 - filled p
       pops h = rest-filled (q .bg .len) (waits (q .fetcher .waiting)) (8 - q .fetcher .delay) (15 - filled p) h rises
@@ -100,11 +100,6 @@ module _ (allowed : Bool) (vram : List ℕ) (s : State) (f : Fine s) where
   pub falls-outside : Paced (s .pipe) → windowed allowed (s .beam .x) (s .regs .wx) (s .pipe) .window ≡ s .pipe .window
       → modeOf (drawnIf allowed vram s .state .regs .stat) ≡ 3 → left (drawnIf allowed vram s .state) + 1 ≤ left s
   falls-outside o e = falls-from (s .pipe) (f .pipe .fetcher .delay) o (rw (windowed-same allowed (s .beam .x) (s .regs .wx) (s .pipe) e) at (fed-pipe allowed vram s))
-
-  -- it was entered before
-  pub falls-inside : Paced (s .pipe) → s .pipe .window ≡ true
-      → modeOf (drawnIf allowed vram s .state .regs .stat) ≡ 3 → left (drawnIf allowed vram s .state) + 1 ≤ left s
-  falls-inside o i = falls-outside o (windowed-inside allowed (s .beam .x) (s .regs .wx) (s .pipe) i ∙ sym i)
 
   -- it is entered in this draw, and at most seven are to be discarded
   falls-entering : discardAt (s .regs .wx) (s .pipe .discard) ≤ 7 → s .pipe .window ≡ false → Fed (windowEntered (s .regs .wx) (s .pipe)) (fedPipe allowed vram s)
@@ -129,7 +124,7 @@ module _ (allowed : Bool) (vram : List ℕ) (s : State) (f : Fine s) where
       rests : 0 < filled q → left (withPipe s q) + 1 ≤ left s
       rests some =
           costs (width - s .beam .x) _ _ _ (q .discard) (filled q) _ (few-discards _ (q .discard) (fed .discard) short) some
-          (ap entry (fed .window)) (ap entry o)
+          (ap entryCost (fed .window)) (ap entryCost o)
 
   -- a draw that does not end the line lowers the number
   pub falls : Steady (s .beam .x) (s .pipe) → modeOf (drawnIf allowed vram s .state .regs .stat) ≡ 3 → left (drawnIf allowed vram s .state) + 1 ≤ left s
@@ -209,10 +204,6 @@ module _ (allowed : Bool) (vram : List ℕ) (s : State) (f : Fine s) where
       (λ h d. inl (record { regs = refl; x = inl refl; within = x }))
       (λ h d l. inl (record { regs = refl; x = inr refl; within = omega arith }))
       (λ h d l. inr (record { mode = omega arith; x = refl; window = refl }))
-
-  -- in mode 3 it goes on
-  pub goes-on : modeOf (drawnIf allowed vram s .state .regs .stat) ≡ 3 → Goes s (drawnIf allowed vram s .state)
-  goes-on m = ⊎-elim (λ g. g) (λ e. let z = e .mode in absurd (omega arith)) goes-or-ends
 
   -- out of mode 3 it ended
   pub ends-at-zero : modeOf (s .regs .stat) ≡ 3 → (modeOf (drawnIf allowed vram s .state .regs .stat) ≡ 3 → ⊥) → Ended (drawnIf allowed vram s .state)

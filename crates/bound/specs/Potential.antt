@@ -24,13 +24,13 @@ waits Nothing = 0
 abbrev pub filled : Pipe → ℕ
 filled p = p .bg .len + waits (p .fetcher .waiting) + (8 - p .fetcher .delay)
 
--- what an entry to the window may cost: fifteen draws to fill the queue again, and seven discards
-abbrev pub entry : Bool → ℕ
-entry inside = cond inside 0 22
+-- what an entryCost to the window may cost: fifteen draws to fill the queue again, and seven discards
+abbrev pub entryCost : Bool → ℕ
+entryCost inside = cond inside 0 22
 
 -- places left in the line, discards, draws until the queue gives pixels, and a window that may still come
 abbrev pub leftAt : ℕ → Pipe → ℕ
-leftAt x p = (width - x) + p .discard + (15 - filled p) + entry (p .window)
+leftAt x p = (width - x) + p .discard + (15 - filled p) + entryCost (p .window)
 
 abbrev pub left : State → ℕ
 left s = leftAt (s .beam .x) (s .pipe)

@@ -8,7 +8,7 @@ use lib.ListN.{length}
 use lib.Seq.{length-sets}
 use Rattle.logic.proofs.Tests.{by-test}
 use Rattle.hardware.specs.Screen.{width, height, offset}
-use Rattle.lcd.specs.Mix.{bytesOf}
+use Rattle.lcd.specs.Mix.{rgbBytes}
 use Rattle.state.specs.With.{modeOf}
 use Rattle.state.specs.declared.State.{State}
 use Rattle.order.specs.Fine.{Fine}
@@ -29,7 +29,7 @@ drawn-on-screen vram s f m =
 
 -- a store keeps the length of a picture
 pub shot-length : (picture : List ℕ) (shot : Shot) → length (shotStored picture shot) ≡ length picture
-shot-length picture (Place x y p) = length-sets picture (offset x y) (bytesOf p)
+shot-length picture (Place x y p) = length-sets picture (offset x y) (rgbBytes p)
 shot-length picture Nothing = refl
 
 -- in mode 3 a draw and the others, else none

@@ -42,8 +42,8 @@ palette bytes p =
     }
 
 -- the eight bytes of a palette
-abbrev pub bytesOf : ColorPalette → List ℕ
-bytesOf p =
+abbrev pub paletteBytes : ColorPalette → List ℕ
+paletteBytes p =
     p .c0 % 256 ∷ p .c0 / 256 ∷ p .c1 % 256 ∷ p .c1 / 256 ∷ p .c2 % 256 ∷ p .c2 / 256 ∷ p .c3 % 256 ∷ p .c3 / 256 ∷ []
 
 -- at the start: all 0, the index 0, counting on after each data write
@@ -77,7 +77,7 @@ dataRead s = getD (s .bytes) (s .index) 0
 
 -- a palette put in place of palette p
 abbrev pub paletteSet : PaletteSet → ℕ → ColorPalette → PaletteSet
-paletteSet s p q = record { bytes = sets (s .bytes) (p % 8 * 8) (bytesOf q); index = s .index; auto = s .auto }
+paletteSet s p q = record { bytes = sets (s .bytes) (p % 8 * 8) (paletteBytes q); index = s .index; auto = s .auto }
 
 -- a colour of equal parts, and the four greys of the start, from white to black
 abbrev pub grey : ℕ → Color

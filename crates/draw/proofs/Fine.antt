@@ -47,9 +47,9 @@ popped-sprite-fine {q} h =
     }
 
 -- the queue with the sprites that start here
-pub ready-fine : (vram : List ℕ) (s : State) (p : Pipe) → SelectionFine (s .selection) → SpriteFine (p .obj) → SpriteFine (ready vram s p)
+pub queue-ready-fine : (vram : List ℕ) (s : State) (p : Pipe) → SelectionFine (s .selection) → SpriteFine (p .obj) → SpriteFine (ready vram s p)
 unfolding ready
-ready-fine vram s p l h = sprites-fine vram (s .regs) (s .palettes .obj .bytes) (spot s) l h
+queue-ready-fine vram s p l h = sprites-fine vram (s .regs) (s .palettes .obj .bytes) (spot s) l h
 
 discarded-fine : {p : Pipe} → 0 < p .bg .len → PipeFine p → PipeFine (discarded p)
 discarded-fine some h =
@@ -57,7 +57,7 @@ discarded-fine some h =
 
 popped-fine : (vram : List ℕ) (s : State) {p : Pipe} → SelectionFine (s .selection) → 0 < p .bg .len → PipeFine p → PipeFine (popped vram s p)
 popped-fine vram s {p} l some h =
-    record { fetcher = h .fetcher; bg = rest-fine (h .bg) some; obj = popped-sprite-fine (ready-fine vram s p l (h .obj)) }
+    record { fetcher = h .fetcher; bg = rest-fine (h .bg) some; obj = popped-sprite-fine (queue-ready-fine vram s p l (h .obj)) }
 
 ended-fine : {p : Pipe} → PipeFine p → PipeFine (endedPipe p)
 ended-fine h = let e = emptied-fine h in record { fetcher = e .fetcher; bg = e .bg; obj = e .obj }

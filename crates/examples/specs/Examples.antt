@@ -9,7 +9,7 @@ use Rattle.sprite.specs.Pick.{lowestTen}
 use Rattle.colors.specs.Shade.{shade}
 use Rattle.colors.specs.Palettes.{freshSet, indexWritten, dataWritten}
 use Rattle.colors.specs.declared.Color.{Color}
-use Rattle.lcd.specs.Mix.{mix, bytesOf}
+use Rattle.lcd.specs.Mix.{mix, rgbBytes}
 use Rattle.state.specs.declared.Registers.{Registers}
 use Rattle.registers.specs.Write.{kept, registersWritten}
 use Rattle.oam_bug.specs.Corruption.{writeWord, readWord}
@@ -22,11 +22,11 @@ colour r g b = record { r = r; g = g; b = b }
 
 abbrev pub says : Example → Type 0
 -- (31,31,31) gives 240,240,240
-says P1 = bytesOf (mix (colour 31 31 31)) ≡ 240 ∷ 240 ∷ 240 ∷ []
+says P1 = rgbBytes (mix (colour 31 31 31)) ≡ 240 ∷ 240 ∷ 240 ∷ []
 -- (31,0,0) gives 201,0,46
-says P2 = bytesOf (mix (colour 31 0 0)) ≡ 201 ∷ 0 ∷ 46 ∷ []
+says P2 = rgbBytes (mix (colour 31 0 0)) ≡ 201 ∷ 0 ∷ 46 ∷ []
 -- (21,21,21) gives 168 three times
-says P3 = bytesOf (mix (colour 21 21 21)) ≡ 168 ∷ 168 ∷ 168 ∷ []
+says P3 = rgbBytes (mix (colour 21 21 21)) ≡ 168 ∷ 168 ∷ 168 ∷ []
 -- y 16, height 8: lines 0 and 7 in, 8 out
 says P4 = (inRange 16 0 8 ≡ true) × (inRange 16 7 8 ≡ true) × (inRange 16 8 8 ≡ false)
 -- y 8, line 0: out at height 8, in at 16; y 0 out at both

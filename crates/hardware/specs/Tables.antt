@@ -24,9 +24,15 @@ pub record Tables : Type 0 where
 abbrev pub tables : List ℕ → List ℕ → Tables
 tables vram oam = record { vram = vram; oam = oam }
 
--- both have their length: as a test, and as a fact
+-- each has its length, and both: as a test, and as a fact
+abbrev pub vramFits : List ℕ → Bool
+vramFits vram = eqb (length vram) vramBytes
+
+abbrev pub oamFits : List ℕ → Bool
+oamFits oam = eqb (length oam) oamBytes
+
 abbrev pub tablesFit : Tables → Bool
-tablesFit t = eqb (length (t .vram)) vramBytes && eqb (length (t .oam)) oamBytes
+tablesFit t = vramFits (t .vram) && oamFits (t .oam)
 
 pub record TablesSized (t : Tables) : Type 0 where
   pub vram : length (t .vram) ≡ vramBytes

@@ -8,7 +8,7 @@ use borrow.Author.Tests.{eqb-true}
 use lib.ListN.{length, length-set}
 use Rattle.logic.proofs.Tests.{by-test, clash}
 use Rattle.refusals.specs.Ladder.{own, done}
-use Rattle.refusals.proofs.Ladder.{Isnt, lowest-none, never-2, own-none, own-isnt}
+use Rattle.refusals.proofs.Ladder.{Isnt, lowest-none, lowest-not-2, own-none, own-isnt}
 use Rattle.hardware.specs.Tables.{TablesSized, withOam}
 use Rattle.sprite.specs.Pick.{pickable, pickNumber}
 use Rattle.state.specs.declared.State.{State}
@@ -51,37 +51,37 @@ module _ (w : World) (h : TablesSized (w .tables)) (f : Fine (w .state)) where
   known : (c : Call) → Known c w
   unfolding pickNumber
   known (step n) =
-      record { accepted = step-paced n w; never2 = never-2 _ _ (ordered f) (other (paced (w .state .beam .cycle) n) (omega arith)) }
-  known (write address value) = record { accepted = λ e. tt; never2 = never-2 _ _ (ordered f) (other (listed address) (omega arith)) }
-  known (read address) = record { accepted = λ e. tt; never2 = never-2 _ _ (ordered f) (other (readable address) (omega arith)) }
+      record { accepted = step-paced n w; never2 = lowest-not-2 _ _ (ordered f) (other (paced (w .state .beam .cycle) n) (omega arith)) }
+  known (write address value) = record { accepted = λ e. tt; never2 = lowest-not-2 _ _ (ordered f) (other (listed address) (omega arith)) }
+  known (read address) = record { accepted = λ e. tt; never2 = lowest-not-2 _ _ (ordered f) (other (readable address) (omega arith)) }
   known (run.vram address value) =
       record {
         accepted = λ e. record { vram = length-set (w .tables .vram) _ value ∙ h .vram; oam = h .oam };
-        never2 = never-2 _ _ (ordered f) (λ e. omega arith);
+        never2 = lowest-not-2 _ _ (ordered f) (λ e. omega arith);
       }
   known (run.oam address value) =
       record {
         accepted = λ e. on-oam _ (length-set (w .tables .oam) _ value);
-        never2 = never-2 _ _ refl (other (inOam address) (omega arith));
+        never2 = lowest-not-2 _ _ refl (other (inOam address) (omega arith));
       }
-  known (colour flag) = record { accepted = λ e. tt; never2 = never-2 _ _ (ordered f) (λ e. omega arith) }
+  known (colour flag) = record { accepted = λ e. tt; never2 = lowest-not-2 _ _ (ordered f) (λ e. omega arith) }
   known bugWrite =
       record {
         accepted = λ e. on-oam _ (length-write (w .tables .oam) (bugRow (w .state)));
-        never2 = never-2 _ _ (ordered f) (other (timely (w .state)) (omega arith));
+        never2 = lowest-not-2 _ _ (ordered f) (other (timely (w .state)) (omega arith));
       }
   known bugRead =
       record {
         accepted = λ e. on-oam _ (length-read (w .tables .oam) (bugRow (w .state)));
-        never2 = never-2 _ _ (ordered f) (other (timely (w .state)) (omega arith));
+        never2 = lowest-not-2 _ _ (ordered f) (other (timely (w .state)) (omega arith));
       }
   known bugReadWrite =
       record {
         accepted = λ e. on-oam _ (length-read-write (w .tables .oam) (bugRow (w .state)));
-        never2 = never-2 _ _ (ordered f) (other (timely (w .state)) (omega arith));
+        never2 = lowest-not-2 _ _ (ordered f) (other (timely (w .state)) (omega arith));
       }
   known shown = record { accepted = λ e. tt; never2 = λ e. omega arith }
-  known (pick line tall) = record { accepted = λ e. tt; never2 = never-2 _ _ refl (other (pickable line tall) (omega arith)) }
+  known (pick line tall) = record { accepted = λ e. tt; never2 = lowest-not-2 _ _ refl (other (pickable line tall) (omega arith)) }
 
   pub lawful : (c : Call) → Lawful (deedOf c w) (w .state)
   lawful c = by-test (λ (d : Deed). Lawful d (w .state)) (done (number c w)) (λ e. known c .accepted (eqb-true _ _ e)) (λ e. tt)

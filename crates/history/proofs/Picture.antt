@@ -6,7 +6,7 @@ use native.Mathlib.Omega.{arith}
 use lib.ListN.{length, take, drop, length-append, length-map, take-append-drop, drop-of-length-le}
 use lib.Seq.{sets, sets-eq, length-sets, length-take-le, take-at, drop-append-add, drop-drop}
 use Rattle.hardware.specs.Screen.{places, pictureBytes}
-use Rattle.lcd.specs.Mix.{bytesOf}
+use Rattle.lcd.specs.Mix.{rgbBytes}
 use Rattle.lcd.specs.declared.Rgb.{Rgb}
 use Rattle.draw.specs.declared.Shot.{Shot}
 use Rattle.draw.specs.declared.Shot.the-variants.{Place, Nothing}
@@ -17,7 +17,7 @@ use Rattle.history.proofs.Rising.{from-more, from-length}
 -- a picture with places stored in it, one after the other
 unfoldable pub put : List ℕ → List Stored → List ℕ
 put picture [] = picture
-put picture (t ∷ rest) = put (sets picture (3 * t .place) (bytesOf (t .bytes))) rest
+put picture (t ∷ rest) = put (sets picture (3 * t .place) (rgbBytes (t .bytes))) rest
 
 -- a picture that draws stored in is the picture with their places stored in it
 pub all-stored : (picture : List ℕ) (shots : List Shot) → allStored picture shots ≡ put picture (storedBy shots)
@@ -33,21 +33,21 @@ put-append picture (t ∷ l) r = put-append _ l r
 
 -- one place stored: the front with its bytes, and what is behind
 module _ (picture : List ℕ) (a : ℕ) (p : Rgb) (fits : 3 * a + 3 ≤ length picture) where
-  front-length : length (take (3 * a) picture ++ bytesOf p) ≡ 3 * suc a
-  front-length = omega (arith, length-append (take (3 * a) picture) (bytesOf p), length-take-le (3 * a) picture (omega arith))
+  front-length : length (take (3 * a) picture ++ rgbBytes p) ≡ 3 * suc a
+  front-length = omega (arith, length-append (take (3 * a) picture) (rgbBytes p), length-take-le (3 * a) picture (omega arith))
 
-  place-front : take (3 * suc a) (sets picture (3 * a) (bytesOf p)) ≡ take (3 * a) picture ++ bytesOf p
+  place-front : take (3 * suc a) (sets picture (3 * a) (rgbBytes p)) ≡ take (3 * a) picture ++ rgbBytes p
   place-front =
-      ap (λ (q : List ℕ). take (3 * suc a) q) (sets-eq (bytesOf p) picture (3 * a) fits)
-      ∙ take-at (take (3 * a) picture ++ bytesOf p) (drop (3 * a + 3) picture) (3 * suc a) front-length
+      ap (λ (q : List ℕ). take (3 * suc a) q) (sets-eq (rgbBytes p) picture (3 * a) fits)
+      ∙ take-at (take (3 * a) picture ++ rgbBytes p) (drop (3 * a + 3) picture) (3 * suc a) front-length
 
-  place-behind : (k : ℕ) → drop (3 * (suc a + k)) (sets picture (3 * a) (bytesOf p)) ≡ drop (3 * (a + suc k)) picture
+  place-behind : (k : ℕ) → drop (3 * (suc a + k)) (sets picture (3 * a) (rgbBytes p)) ≡ drop (3 * (a + suc k)) picture
   place-behind k =
-      let x : List ℕ = take (3 * a) picture ++ bytesOf p in
+      let x : List ℕ = take (3 * a) picture ++ rgbBytes p in
       let y : List ℕ = drop (3 * a + 3) picture in
       let e : 3 * (suc a + k) ≡ length x + 3 * k = omega (arith, front-length) in
       let g : 3 * a + 3 + 3 * k ≡ 3 * (a + suc k) = omega arith in
-      ap (λ (q : List ℕ). drop (3 * (suc a + k)) q) (sets-eq (bytesOf p) picture (3 * a) fits)
+      ap (λ (q : List ℕ). drop (3 * (suc a + k)) q) (sets-eq (rgbBytes p) picture (3 * a) fits)
       ∙ ap (λ (j : ℕ). drop j (x ++ y)) e
       ∙ drop-append-add x y (3 * k)
       ∙ drop-drop (3 * k) (3 * a + 3) picture
@@ -66,14 +66,14 @@ put-from picture a (t ∷ l) e fits =
     let here : t .place ≡ a = cc in
     let rest : numbers l ≡ from (suc a) (length l) = cc in
     let p = t .bytes in
-    let q : List ℕ = sets picture (3 * a) (bytesOf p) in
+    let q : List ℕ = sets picture (3 * a) (rgbBytes p) in
     let room : 3 * a + 3 ≤ length picture = omega arith in
     let k = length l in
-    ap (λ (j : ℕ). put (sets picture (3 * j) (bytesOf p)) l) here
-    ∙ put-from q (suc a) l rest (omega (arith, length-sets picture (3 * a) (bytesOf p)))
+    ap (λ (j : ℕ). put (sets picture (3 * j) (rgbBytes p)) l) here
+    ∙ put-from q (suc a) l rest (omega (arith, length-sets picture (3 * a) (rgbBytes p)))
     ∙ ap (λ (z : List ℕ). z ++ allBytes l ++ drop (3 * (suc a + k)) q) (place-front picture a p room)
-    ∙ ap (λ (z : List ℕ). take (3 * a) picture ++ bytesOf p ++ allBytes l ++ z) (place-behind picture a p room k)
-    ∙ ap (λ (z : List ℕ). z ++ drop (3 * (a + suc k)) picture) (append-assoc (take (3 * a) picture) (bytesOf p) (allBytes l))
+    ∙ ap (λ (z : List ℕ). take (3 * a) picture ++ rgbBytes p ++ allBytes l ++ z) (place-behind picture a p room k)
+    ∙ ap (λ (z : List ℕ). z ++ drop (3 * (a + suc k)) picture) (append-assoc (take (3 * a) picture) (rgbBytes p) (allBytes l))
 
 -- as many as their numbers
 pub numbers-length : (l : List Stored) (a k : ℕ) → numbers l ≡ from a k → length l ≡ k

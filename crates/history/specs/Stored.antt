@@ -3,7 +3,7 @@ use Prim.Native.Nat.{ℕ, zero, suc}
 use mathlib.Core.Bool.{cond, _||_}
 use mathlib.Core.List.{List, [], _∷_, _++_, map}
 use Rattle.hardware.specs.Screen.{place}
-use Rattle.lcd.specs.Mix.{bytesOf}
+use Rattle.lcd.specs.Mix.{rgbBytes}
 use Rattle.lcd.specs.declared.Rgb.{Rgb}
 use Rattle.draw.specs.declared.Shot.{Shot}
 use Rattle.draw.specs.declared.Shot.the-variants.{Place, Nothing}
@@ -32,7 +32,7 @@ from a (suc n) = a ∷ from (suc a) n
 -- the bytes of stored places, three each, in order
 unfoldable pub allBytes : List Stored → List ℕ
 allBytes [] = []
-allBytes (t ∷ rest) = bytesOf (t .bytes) ++ allBytes rest
+allBytes (t ∷ rest) = rgbBytes (t .bytes) ++ allBytes rest
 
 -- a run with what it stored since the latest of the start, the last swap and the last blanking
 pub record Trace : Type 0 where

@@ -18,5 +18,5 @@ mix c =
     }
 
 -- the bytes in the order in which they are stored
-abbrev pub bytesOf : Rgb → List ℕ
-bytesOf p = p .red ∷ p .green ∷ p .blue ∷ []
+abbrev pub rgbBytes : Rgb → List ℕ
+rgbBytes p = p .red ∷ p .green ∷ p .blue ∷ []

@@ -7,12 +7,12 @@ use lib.Dec.{eqb}
 use lib.ListN.{length, replicate}
 use lib.Seq.{sets}
 use Rattle.hardware.specs.Screen.{pictureBytes, offset}
-use Rattle.lcd.specs.Mix.{bytesOf}
+use Rattle.lcd.specs.Mix.{rgbBytes}
 use Rattle.lcd.specs.declared.Rgb.{Rgb}
 
 -- a picture with three bytes stored at a place
 abbrev pub stored : List ℕ → ℕ → ℕ → Rgb → List ℕ
-stored picture x y p = sets picture (offset x y) (bytesOf p)
+stored picture x y p = sets picture (offset x y) (rgbBytes p)
 
 -- picture A at 0, picture B at any other number
 abbrev pub chosen {ℓ} : {P : Type ℓ} → ℕ → P → P → P

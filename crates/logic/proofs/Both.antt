@@ -17,10 +17,3 @@ second false false e = e
 -- both parts
 pub split : (a b : Bool) → a && b ≡ true → (a ≡ true) × (b ≡ true)
 split a b e = (first a b e, second a b e)
-
--- where a part failed, so did the whole
-pub first-fails : (a b : Bool) → a ≡ false → a && b ≡ false
-first-fails a b e = rw e
-
-pub second-fails : (a b : Bool) → a ≡ true → b ≡ false → a && b ≡ false
-second-fails a b e f = rw (e, f)

@@ -7,7 +7,7 @@ use lib.ListN.{length-replicate}
 use lib.Seq.{length-sets}
 use Rattle.logic.specs.Every.{every}
 use Rattle.hardware.specs.declared.Machine.{Machine}
-use Rattle.colors.specs.Palettes.{freshSet, paletteSet, bytesOf, greys}
+use Rattle.colors.specs.Palettes.{freshSet, paletteSet, paletteBytes, greys}
 use Rattle.colors.specs.declared.ColorPalette.{ColorPalette}
 use Rattle.colors.specs.declared.PaletteSet.{PaletteSet}
 use Rattle.fifo.specs.Ring.{live}
@@ -19,7 +19,7 @@ none-fine : SetFine freshSet
 none-fine = record { bytes = length-replicate {A = ℕ} 64 0; index = omega arith }
 
 put-fine : {s : PaletteSet} (p : ℕ) (q : ColorPalette) → SetFine s → SetFine (paletteSet s p q)
-put-fine {s} p q h = record { bytes = length-sets (s .bytes) (p % 8 * 8) (bytesOf q) ∙ h .bytes; index = h .index }
+put-fine {s} p q h = record { bytes = length-sets (s .bytes) (p % 8 * 8) (paletteBytes q) ∙ h .bytes; index = h .index }
 
 palettes-fine : (cgb : Bool) → PalettesFine (freshPalettes cgb)
 palettes-fine true = record { bg = none-fine; obj = none-fine }

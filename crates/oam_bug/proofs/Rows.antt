@@ -11,19 +11,16 @@ use lib.Dec.{eqb, ltb}
 use lib.ListN.{length, getD, set, length-set}
 use lib.Seq.{getD-set-same, getD-set-other}
 use Rattle.logic.proofs.Tests.{by-test}
-use Rattle.oam_bug.specs.Words.{oamRows, word, withWord, place, wordOf, withRow, rowFrom, rowCopied}
-use Rattle.oam_bug.specs.Corruption.{rowAt, writeCorrupted, readCorrupted, beforeCorrupted, spread, aroundCorrupted, readWriteCorrupted}
+use Rattle.oam_bug.specs.Words.{oamRows, word, withWord, wordPlace, wordOf, withRow, rowFrom, rowCopied}
+use Rattle.oam_bug.specs.Corruption.{corruptedRow, writeCorrupted, readCorrupted, beforeCorrupted, spread, aroundCorrupted, readWriteCorrupted}
 
 -- ---- the row is one of the twenty
 
-pub row-below : (mode cycle : ℕ) → (mode ≡ 2 → (4 ≤ cycle) × (cycle ≤ 83)) → rowAt mode cycle < oamRows
+pub row-below : (mode cycle : ℕ) → (mode ≡ 2 → (4 ≤ cycle) × (cycle ≤ 83)) → corruptedRow mode cycle < oamRows
 row-below mode cycle h =
     by-test (λ (r : ℕ). r < oamRows) (eqb mode 2) (λ e. let b = h (eqb-true mode 2 e) in omega arith) (λ e. omega arith)
 
 -- ---- length
-
-pub length-with-word : (l : List ℕ) (i w : ℕ) → length (withWord l i w) ≡ length l
-length-with-word l i w = simp length-set
 
 pub length-with-row : (l : List ℕ) (r a b c d : ℕ) → length (withRow l r a b c d) ≡ length l
 unfolding withRow
@@ -87,60 +84,36 @@ pub record Row (l : List ℕ) (r a b c d : ℕ) : Type 0 where
 module _ (l : List ℕ) (r a b c d : ℕ) where
   -- after one, two and three of the four words
   abbrev one : List ℕ
-  one = withWord l (place r 0) a
+  one = withWord l (wordPlace r 0) a
 
   abbrev two : List ℕ
-  two = withWord one (place r 1) b
+  two = withWord one (wordPlace r 1) b
 
   abbrev three : List ℕ
-  three = withWord two (place r 2) c
+  three = withWord two (wordPlace r 2) c
 
   -- a row stored holds the words stored
-  pub row-stored : place r 3 + 1 < length l → Row (withRow l r a b c d) r a b c d
+  pub row-stored : wordPlace r 3 + 1 < length l → Row (withRow l r a b c d) r a b c d
   unfolding withRow
   row-stored h =
       record {
-        first = word-before three (place r 3) d (place r 0) (omega arith)
-            ∙ word-before two (place r 2) c (place r 0) (omega arith)
-            ∙ word-before one (place r 1) b (place r 0) (omega arith)
-            ∙ word-same l (place r 0) a (omega arith);
-        second = word-before three (place r 3) d (place r 1) (omega arith)
-            ∙ word-before two (place r 2) c (place r 1) (omega arith)
-            ∙ word-same one (place r 1) b (simp length-set (omega arith));
-        third = word-before three (place r 3) d (place r 2) (omega arith)
-            ∙ word-same two (place r 2) c (simp length-set (omega arith));
-        fourth = word-same three (place r 3) d (simp length-set (omega arith));
+        first = word-before three (wordPlace r 3) d (wordPlace r 0) (omega arith)
+            ∙ word-before two (wordPlace r 2) c (wordPlace r 0) (omega arith)
+            ∙ word-before one (wordPlace r 1) b (wordPlace r 0) (omega arith)
+            ∙ word-same l (wordPlace r 0) a (omega arith);
+        second = word-before three (wordPlace r 3) d (wordPlace r 1) (omega arith)
+            ∙ word-before two (wordPlace r 2) c (wordPlace r 1) (omega arith)
+            ∙ word-same one (wordPlace r 1) b (simp length-set (omega arith));
+        third = word-before three (wordPlace r 3) d (wordPlace r 2) (omega arith)
+            ∙ word-same two (wordPlace r 2) c (simp length-set (omega arith));
+        fourth = word-same three (wordPlace r 3) d (simp length-set (omega arith));
       }
 
   -- a byte outside the row stays
-  pub byte-outside : (j : ℕ) → (place r 0 ≤ j → j ≤ place r 3 + 1 → ⊥) → getD (withRow l r a b c d) j 0 ≡ getD l j 0
+  pub byte-outside : (j : ℕ) → (wordPlace r 0 ≤ j → j ≤ wordPlace r 3 + 1 → ⊥) → getD (withRow l r a b c d) j 0 ≡ getD l j 0
   unfolding withRow
   byte-outside j h =
-      byte-other three (place r 3) d j (λ e. h (omega arith) (omega arith)) (λ e. h (omega arith) (omega arith))
-      ∙ byte-other two (place r 2) c j (λ e. h (omega arith) (omega arith)) (λ e. h (omega arith) (omega arith))
-      ∙ byte-other one (place r 1) b j (λ e. h (omega arith) (omega arith)) (λ e. h (omega arith) (omega arith))
-      ∙ byte-other l (place r 0) a j (λ e. h (omega arith) (omega arith)) (λ e. h (omega arith) (omega arith))
-
--- a corrupted row holds its first word and the other three of the row before, and nothing else changes
-pub row-from-holds : (l : List ℕ) (r first : ℕ) → place r 3 + 1 < length l
-    → Row (rowFrom l r first) r first (wordOf l (r - 1) 1) (wordOf l (r - 1) 2) (wordOf l (r - 1) 3)
-unfolding rowFrom
-row-from-holds l r first h = row-stored l r first _ _ _ h
-
-pub row-from-outside : (l : List ℕ) (r first j : ℕ) → (place r 0 ≤ j → j ≤ place r 3 + 1 → ⊥)
-    → getD (rowFrom l r first) j 0 ≡ getD l j 0
-unfolding rowFrom
-row-from-outside l r first j h = byte-outside l r first _ _ _ j h
-
--- row 0 is never corrupted
-pub write-none : (l : List ℕ) → writeCorrupted l 0 ≡ l
-unfolding writeCorrupted
-write-none l = refl
-
-pub read-none : (l : List ℕ) → readCorrupted l 0 ≡ l
-unfolding readCorrupted
-read-none l = refl
-
-pub read-write-none : (l : List ℕ) → readWriteCorrupted l 0 ≡ l
-unfolding readCorrupted aroundCorrupted
-read-write-none l = refl
+      byte-other three (wordPlace r 3) d j (λ e. h (omega arith) (omega arith)) (λ e. h (omega arith) (omega arith))
+      ∙ byte-other two (wordPlace r 2) c j (λ e. h (omega arith) (omega arith)) (λ e. h (omega arith) (omega arith))
+      ∙ byte-other one (wordPlace r 1) b j (λ e. h (omega arith) (omega arith)) (λ e. h (omega arith) (omega arith))
+      ∙ byte-other l (wordPlace r 0) a j (λ e. h (omega arith) (omega arith)) (λ e. h (omega arith) (omega arith))

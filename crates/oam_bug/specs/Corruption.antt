@@ -4,11 +4,11 @@ use mathlib.Core.Bool.{cond, _||_}
 use mathlib.Core.List.{List}
 use lib.Bits.{bitAnd, bitOr, bitXor}
 use lib.Dec.{eqb, ltb}
-use Rattle.oam_bug.specs.Words.{place, withWord, wordOf, rowFrom, rowCopied}
+use Rattle.oam_bug.specs.Words.{wordPlace, withWord, wordOf, rowFrom, rowCopied}
 
 -- the row searched at a cycle of the line in mode 2; in other modes row 0, which is never corrupted
-abbrev pub rowAt : ℕ → ℕ → ℕ
-rowAt mode cycle = cond (eqb mode 2) ((cycle - 4) / 4) 0
+abbrev pub corruptedRow : ℕ → ℕ → ℕ
+corruptedRow mode cycle = cond (eqb mode 2) ((cycle - 4) / 4) 0
 
 -- "Write Corruption": a is the word itself, b and c are the first and third of the row before
 abbrev pub writeWord : ℕ → ℕ → ℕ → ℕ
@@ -36,7 +36,7 @@ readCorrupted oam r =
 -- the first word of the row before, when a read and a write at row r fall together
 unfoldable pub beforeCorrupted : List ℕ → ℕ → List ℕ
 beforeCorrupted oam r =
-    withWord oam (place (r - 1) 0)
+    withWord oam (wordPlace (r - 1) 0)
     (readWriteWord (wordOf oam (r - 2) 0) (wordOf oam (r - 1) 0) (wordOf oam r 0) (wordOf oam (r - 1) 2))
 
 -- the row before copied over row r and over the second row before

@@ -16,16 +16,16 @@ abbrev pub withWord : List ℕ → ℕ → ℕ → List ℕ
 withWord oam i w = set (set oam i (w % 256)) (i + 1) (w / 256)
 
 -- the first byte of word k of row r, both counted from 0
-abbrev pub place : ℕ → ℕ → ℕ
-place r k = 8 * r + 2 * k
+abbrev pub wordPlace : ℕ → ℕ → ℕ
+wordPlace r k = 8 * r + 2 * k
 
 -- word k of row r
 abbrev pub wordOf : List ℕ → ℕ → ℕ → ℕ
-wordOf oam r k = word oam (place r k)
+wordOf oam r k = word oam (wordPlace r k)
 
 -- four words stored as row r
 unfoldable pub withRow : List ℕ → ℕ → ℕ → ℕ → ℕ → ℕ → List ℕ
-withRow oam r v w x y = withWord (withWord (withWord (withWord oam (place r 0) v) (place r 1) w) (place r 2) x) (place r 3) y
+withRow oam r v w x y = withWord (withWord (withWord (withWord oam (wordPlace r 0) v) (wordPlace r 1) w) (wordPlace r 2) x) (wordPlace r 3) y
 
 -- row r: its first word given, the other three copied from the row before
 unfoldable pub rowFrom : List ℕ → ℕ → ℕ → List ℕ

@@ -3,15 +3,15 @@ ghost use mathlib.Core.Path.{_≡_};
 ghost use Prim.Native.Nat.{_+_, _*_, _<_, _≤_};
 ghost use lib.ListN.{length};
 ghost use Rattle.hardware.specs.Tables.{oamBytes};
-ghost use Rattle.oam_bug.specs.Words.{oamRows, place, wordOf, withWord, withRow, rowFrom, rowCopied};
-ghost use Rattle.oam_bug.specs.Corruption.{rowAt, writeWord, readWord, readWriteWord};
+ghost use Rattle.oam_bug.specs.Words.{oamRows, wordPlace, wordOf, withWord, withRow, rowFrom, rowCopied};
+ghost use Rattle.oam_bug.specs.Corruption.{corruptedRow, writeWord, readWord, readWriteWord};
 ghost use Rattle.oam_bug.specs.Corruption.{beforeCorrupted, spread, aroundCorrupted};
 ghost use Rattle.oam_bug.specs.Corruption.{writeCorrupted, readCorrupted, readWriteCorrupted};
 
 // The row that an access at a cycle of the line corrupts.
 pub fn corrupted_row(mode: u8, cycle: u16) -> u8
     requires { ⌜ (mode ≡ 2 → (4 ≤ cycle) × (cycle ≤ 83)) ⌝ }
-    ensures { λ r. ⌜ r ≡ rowAt mode cycle ⌝ }
+    ensures { λ r. ⌜ r ≡ corruptedRow mode cycle ⌝ }
 {
     if mode == 2 {
         ((cycle - 4) / 4) as u8
@@ -60,7 +60,7 @@ fn word_at(oam: &[u8], row: u8, k: u8) -> u16
 // Stores word k of a row.
 fn put_word(oam: &mut [u8], row: u8, k: u8, w: u16)
     requires { ⌜ (length (now oam) ≡ oamBytes) × (row < oamRows) × (k < 4) ⌝ }
-    ensures { λ _. ⌜ now (oam .exit) ≡ withWord (now (oam .entry)) (place row k) w ⌝ }
+    ensures { λ _. ⌜ now (oam .exit) ≡ withWord (now (oam .entry)) (wordPlace row k) w ⌝ }
 {
     let at = 8 * row as usize + 2 * k as usize;
     oam[at] = (w % 256) as u8;

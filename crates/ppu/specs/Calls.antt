@@ -14,7 +14,7 @@ use Rattle.state.specs.declared.State.{State}
 use Rattle.memory.specs.Fresh.{freshState, cleared}
 use Rattle.memory.specs.Writes.{vramWritten, oamWritten}
 use Rattle.registers.specs.Write.{kept, stateWritten, picturesWritten, registerRead, colourSet}
-use Rattle.oam_bug.specs.Corruption.{rowAt}
+use Rattle.oam_bug.specs.Corruption.{corruptedRow}
 use Rattle.step.specs.Step.{report, stepped, picturesAfter}
 use Rattle.step.specs.declared.Report.{Report}
 use Rattle.ppu.specs.Numbers.{startNumber, stepNumber, writeNumber, readNumber, shownNumber}
@@ -63,7 +63,7 @@ pub record OamWrite (oam : List ℕ) (address value r : ℕ) (oam′ : List ℕ)
 
 -- a corruption by one of the three rules, at the row of the moment
 abbrev pub bugRow : State → ℕ
-bugRow s = rowAt (modeOf (s .regs .stat)) (s .beam .cycle)
+bugRow s = corruptedRow (modeOf (s .regs .stat)) (s .beam .cycle)
 
 pub record Corruption (rule : List ℕ → ℕ → List ℕ) (s : State) (oam : List ℕ) (r : ℕ) (oam′ : List ℕ) : Type 0 where
   pub number : r ≡ bugNumber s oam

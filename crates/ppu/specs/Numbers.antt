@@ -4,9 +4,8 @@ use mathlib.Core.Path.{_≡_}
 use mathlib.Core.Bool.{Bool, true, not, _&&_, _||_}
 use mathlib.Core.List.{List}
 use lib.Dec.{eqb, ltb, leb}
-use lib.ListN.{length}
 use Rattle.refusals.specs.Ladder.{lowest, own}
-use Rattle.hardware.specs.Tables.{vramBytes, oamBytes, Tables, tablesFit}
+use Rattle.hardware.specs.Tables.{oamBytes, Tables, vramFits, oamFits, tablesFit}
 use Rattle.lcd.specs.Pictures.{Pictures, picturesFit}
 use Rattle.state.specs.With.{modeOf}
 use Rattle.state.specs.Shape.{Shaped}
@@ -14,13 +13,6 @@ use Rattle.state.specs.declared.State.{State}
 use Rattle.order.specs.Order.{inOrder}
 use Rattle.registers.specs.Registers.{keptBits}
 use Rattle.registers.specs.Write.{readable}
-
--- 1: every lent buffer has its length; a table that is lent alone
-abbrev pub vramFits : List ℕ → Bool
-vramFits vram = eqb (length vram) vramBytes
-
-abbrev pub oamFits : List ℕ → Bool
-oamFits oam = eqb (length oam) oamBytes
 
 -- 3: a step is 2, or 4 at a multiple of 4
 abbrev pub paced : ℕ → ℕ → Bool

@@ -23,13 +23,13 @@ lowest-none true false e = absurd (omega arith)
 lowest-none false ordered e = absurd (omega arith)
 
 -- lent buffers of their lengths are never refused by 1, a state in order never by 2
-pub never-1 : (sized ordered : Bool) {n : ℕ} → sized ≡ true → Isnt 1 n → Isnt 1 (lowest sized ordered n)
+pub lowest-not-1 : (sized ordered : Bool) {n : ℕ} → sized ≡ true → Isnt 1 n → Isnt 1 (lowest sized ordered n)
 unfolding lowest
-never-1 sized ordered s h = by-test (Isnt 1) sized (λ t. by-test (Isnt 1) ordered (λ o. h) (λ o e. omega arith)) (λ t. absurd (clash s t))
+lowest-not-1 sized ordered s h = by-test (Isnt 1) sized (λ t. by-test (Isnt 1) ordered (λ o. h) (λ o e. omega arith)) (λ t. absurd (clash s t))
 
-pub never-2 : (sized ordered : Bool) {n : ℕ} → ordered ≡ true → Isnt 2 n → Isnt 2 (lowest sized ordered n)
+pub lowest-not-2 : (sized ordered : Bool) {n : ℕ} → ordered ≡ true → Isnt 2 n → Isnt 2 (lowest sized ordered n)
 unfolding lowest
-never-2 sized ordered o h =
+lowest-not-2 sized ordered o h =
     by-test (Isnt 2) sized (λ t. by-test (Isnt 2) ordered (λ u. h) (λ u. absurd (clash o u))) (λ t e. omega arith)
 
 -- a call's own number

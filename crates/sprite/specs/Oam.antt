@@ -53,8 +53,8 @@ abbrev pub behind : ℕ → Bool
 behind flags = bitAt flags 7
 
 -- the four bytes of an entry, in OAM's order, and an entry of four bytes
-abbrev pub bytesOf : Sprite → List ℕ
-bytesOf s = s .y ∷ s .x ∷ s .tile ∷ s .flags ∷ []
+abbrev pub entryBytes : Sprite → List ℕ
+entryBytes s = s .y ∷ s .x ∷ s .tile ∷ s .flags ∷ []
 
 -- a sprite whose x is below 8 starts left of column 0: its colours move left by 8 - x, and 0s follow
 abbrev pub movedLeft : List ℕ → ℕ → List ℕ

@@ -6,7 +6,7 @@ use lib.Dec.{eqb, ltb}
 use lib.ListN.{length, take, drop, replicate}
 use Rattle.refusals.specs.Ladder.{lowest, own, done}
 use Rattle.hardware.specs.Screen.{height}
-use Rattle.hardware.specs.Tables.{oamBytes}
+use Rattle.hardware.specs.Tables.{oamFits}
 use Rattle.sprite.specs.declared.SelectedSprite.{SelectedSprite}
 use Rattle.sprite.specs.declared.Selection.{Selection}
 use Rattle.sprite.specs.declared.Picked.{Picked}
@@ -46,10 +46,6 @@ selection oam line tall former =
 -- ten slots of nothing
 abbrev pub blankSlots : List SelectedSprite
 blankSlots = replicate 10 (record { sprite = record { y = 0; x = 0; tile = 0; flags = 0 }; index = 0 })
-
--- a pick asked for by itself wants the whole of OAM, a line of the picture, and sprites 8 or 16 rows tall
-abbrev pub oamFits : List ℕ → Bool
-oamFits oam = eqb (length oam) oamBytes
 
 abbrev pub pickable : ℕ → ℕ → Bool
 pickable line tall = ltb line height && (eqb tall 8 || eqb tall 16)

@@ -3,7 +3,7 @@ ghost use mathlib.Core.Path.{_≡_};
 ghost use Prim.Native.Nat.{_<_, _*_, _+_};
 ghost use lib.ListN.{length, getD, set};
 ghost use Rattle.hardware.specs.Tables.{oamBytes};
-ghost use Rattle.sprite.specs.Oam.{entry, screenY, screenX, inRange, bytesOf, movedLeft};
+ghost use Rattle.sprite.specs.Oam.{entry, screenY, screenX, inRange, entryBytes, movedLeft};
 ghost use Rattle.sprite.specs.Oam.{colourPalette, bankOf, greyPalette, xFlip, yFlip, behind};
 ghost use Rattle.sprite.specs.Pick.{selection, blankSlots, pickable, pickNumber, refusedPick, pickOf};
 use hardware::Machine;
@@ -33,7 +33,7 @@ impl Sprite {
     // The byte at an offset of the entry: y, x, tile, flags.
     pub fn get_at_offset(self, offset: u8) -> u8
         requires { ⌜ offset < 4 ⌝ }
-        ensures { λ r. ⌜ r ≡ getD (bytesOf self) offset 0 ⌝ }
+        ensures { λ r. ⌜ r ≡ getD (entryBytes self) offset 0 ⌝ }
     {
         match offset {
             0 => self.y,
@@ -46,7 +46,7 @@ impl Sprite {
     // The entry with another byte at an offset.
     pub fn set_at_offset(self, offset: u8, data: u8) -> Self
         requires { ⌜ offset < 4 ⌝ }
-        ensures { λ r. ⌜ r ≡ entry (set (bytesOf self) offset «data») 0 ⌝ }
+        ensures { λ r. ⌜ r ≡ entry (set (entryBytes self) offset «data») 0 ⌝ }
     {
         let mut next = self;
         match offset {

@@ -1,5 +1,5 @@
 -- `draw::draw_pixel` meets its contract.
-use Rattle.draw.proofs.Fine.{front-coloured, ready-fine}
+use Rattle.draw.proofs.Fine.{front-coloured, queue-ready-fine}
 use Rattle.pixel.proofs.Added.{popped-coloured}
 use Rattle.draw.specs.Draw.{pixelBytes, ready}
 use borrow.Author.Needs.{needs}
@@ -27,7 +27,7 @@ mixer-requires c κs =
     let at = added .before in
     let start = at .before .before in
     let d = start .pre .0 in
-    let laid = ready-fine (start .args .vram .now) (start .args .s) (start .args .p) (d .selection) (d .pipe .obj) in (
+    let laid = queue-ready-fine (start .args .vram .now) (start .args .s) (start .args .p) (d .selection) (d .pipe .obj) in (
       rw (c .before .pop .ensures) (front-coloured (d .pipe .bg) (start .pre .1)),
       rw (c .pop2 .ensures, added .add-sprites .ensures, at .spot-of .ensures) (popped-coloured _ (laid .pixels)),
     )

@@ -1,5 +1,7 @@
 -- `ppu::read_number` meets its contract.
+use mathlib.Core.Path.{refl}
 use borrow.Author.Needs.{needs}
+use Rattle.ppu.proofs.Graded.{graded}
 use Rattle.ppu.proofs.read_number.Statement.{statement}
 use Rattle.ppu.proofs.read_number.Tie as tie
 
@@ -17,8 +19,10 @@ lowest-requires c κs = search needs
 
 returns : tie.Need-returns
 returns c =
-    let own = c .before .before in
-    record { number = cc; shape = own .before .in-order .ensures .shape }
+    let test = c .before .before in
+    let judged = test .before in
+    let own = rw (test .is-readable .ensures) at (c .before .own .ensures) in
+    graded (c .lowest .ensures) refl (judged .in-order .ensures) own
 
 pub read-number-spec : {M : Type 1} → statement M
 read-number-spec =

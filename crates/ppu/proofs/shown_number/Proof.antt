@@ -1,4 +1,5 @@
 -- `ppu::shown_number` meets its contract.
+use mathlib.Core.Path.{_∙_}
 use borrow.Author.Needs.{needs}
 use Rattle.ppu.proofs.shown_number.Statement.{statement}
 use Rattle.ppu.proofs.shown_number.Tie as tie
@@ -13,7 +14,7 @@ lowest-requires : tie.Need-lowest-requires
 lowest-requires c κs = search needs
 
 returns : tie.Need-returns
-returns c = cc
+returns c = c .lowest .ensures ∙ rw (c .before .in-order .ensures .answer, c .before .before .pictures-fit .ensures)
 
 pub shown-number-spec : {M : Type 1} → statement M
 shown-number-spec =

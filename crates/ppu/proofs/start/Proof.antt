@@ -1,8 +1,5 @@
 -- `ppu::start` meets its contract.
-use mathlib.Core.Path.{ap, _∙_}
-use mathlib.Core.Bool.{Bool, true}
 use borrow.Author.Needs.{needs}
-use Rattle.refusals.specs.Ladder.{lowest}
 use Rattle.refusals.proofs.Given.{refused, accepted}
 use Rattle.ppu.proofs.start.Statement.{statement}
 use Rattle.ppu.proofs.start.Tie as tie
@@ -32,7 +29,7 @@ returns : tie.Need-returns
 returns c =
     let choice = c .before in
     let test = choice .before in
-    let e = test .lowest .ensures ∙ ap (λ (v : Bool). lowest v true 0) (test .before .all-fit .ensures) in
+    let e = rw (test .before .all-fit .ensures) at (test .lowest .ensures) in
     let h = choice .if1 .taken in
     record { number = e; state = c .fresh-state .ensures; tables = refused e _ _ h; pictures = refused e _ _ h }
 
@@ -61,7 +58,7 @@ returns-2 c =
     let first = lent .before .before in
     let choice = first .before in
     let test = choice .before in
-    let e = test .lowest .ensures ∙ ap (λ (v : Bool). lowest v true 0) (test .before .all-fit .ensures) in
+    let e = rw (test .before .all-fit .ensures) at (test .lowest .ensures) in
     let z = choice .if1 .left in
     let d = done .start .ensures in
     record { number = e; state = d .state; tables = accepted e _ _ z (d .tables); pictures = accepted e _ _ z (d .pictures) }

@@ -1,5 +1,6 @@
 -- `ppu::step_number` meets its contract.
 use borrow.Author.Needs.{needs}
+use Rattle.ppu.proofs.Graded.{graded}
 use Rattle.ppu.proofs.step_number.Statement.{statement}
 use Rattle.ppu.proofs.step_number.Tie as tie
 
@@ -20,8 +21,10 @@ lowest-requires c κs = search needs
 
 returns : tie.Need-returns
 returns c =
-    let own = c .before .before in
-    record { number = cc; shape = own .before .in-order .ensures .shape }
+    let test = c .before .before in
+    let judged = test .before in
+    let own = rw (test .is-paced .ensures) at (c .before .own .ensures) in
+    graded (c .lowest .ensures) (judged .before .all-fit .ensures) (judged .in-order .ensures) own
 
 pub step-number-spec : {M : Type 1} → statement M
 step-number-spec =

@@ -1,5 +1,7 @@
 -- `ppu::vram_number` meets its contract.
+use mathlib.Core.Path.{refl}
 use borrow.Author.Needs.{needs}
+use Rattle.ppu.proofs.Graded.{graded}
 use Rattle.ppu.proofs.vram_number.Statement.{statement}
 use Rattle.ppu.proofs.vram_number.Tie as tie
 
@@ -10,7 +12,7 @@ lowest-requires : tie.Need-lowest-requires
 lowest-requires c κs = search needs
 
 returns : tie.Need-returns
-returns c = record { number = cc; shape = c .before .in-order .ensures .shape }
+returns c = graded (c .lowest .ensures) refl (c .before .in-order .ensures) refl
 
 pub vram-number-spec : {M : Type 1} → statement M
 vram-number-spec = tie.close (tie.spec in-order-requires lowest-requires returns)

@@ -8,7 +8,8 @@ use borrow.Author.Needs.{needs}
 use borrow.Author.Tests.{eq-eqb, ne-eqb, eqb-true}
 use Rattle.hardware.specs.Tables.{oamBytes}
 use Rattle.refusals.proofs.Ladder.{lowest-none}
-use Rattle.sprite.specs.Pick.{oamFits, pickNumber, pickOf}
+use Rattle.hardware.specs.Tables.{oamFits}
+use Rattle.sprite.specs.Pick.{pickNumber, pickOf}
 use Rattle.sprite.proofs.pick.Statement.{statement}
 use Rattle.sprite.proofs.pick.Tie as tie
 
