@@ -25,7 +25,8 @@ wordOf oam r k = word oam (wordPlace r k)
 
 -- four words stored as row r
 unfoldable pub withRow : List ℕ → ℕ → ℕ → ℕ → ℕ → ℕ → List ℕ
-withRow oam r v w x y = withWord (withWord (withWord (withWord oam (wordPlace r 0) v) (wordPlace r 1) w) (wordPlace r 2) x) (wordPlace r 3) y
+withRow oam r v w x y =
+    withWord (withWord (withWord (withWord oam (wordPlace r 0) v) (wordPlace r 1) w) (wordPlace r 2) x) (wordPlace r 3) y
 
 -- row r: its first word given, the other three copied from the row before
 unfoldable pub rowFrom : List ℕ → ℕ → ℕ → List ℕ
