@@ -8,7 +8,7 @@ ghost use Rattle.sprite.specs.Pick.{pickOf};
 ghost use Rattle.ppu.specs.Numbers.{paced, listed, timely, stepNumber, writeNumber, readNumber};
 ghost use Rattle.ppu.specs.Numbers.{vramNumber, oamNumber, colourNumber, bugNumber, shownNumber, Graded};
 ghost use Rattle.ppu.specs.Calls.{Start, noReport, Step, RegisterWrite, readAnswer, colourAnswer};
-ghost use Rattle.ppu.specs.Calls.{VramWrite, OamWrite, bugRow, Corruption, Shown};
+ghost use Rattle.ppu.specs.Calls.{VramWrite, OamWrite, Corruption, Shown};
 use hardware::Machine;
 use sprite::Picked;
 use state::State;
@@ -290,14 +290,6 @@ fn bug_number(s: State, oam: &[u8]) -> u8
     )
 }
 
-// The row that a corruption is at.
-fn bug_row(s: State) -> u8
-    requires { ⌜ timely s ≡ true ⌝ }
-    ensures { λ r. ⌜ r ≡ bugRow s ⌝ }
-{
-    oam_bug::corrupted_row(s.regs.stat % 4, s.beam.cycle)
-}
-
 // OAM corruption by a write.
 pub fn oam_bug_write(s: State, oam: &mut [u8]) -> u8
     ensures { λ r. ⌜ Corruption writeCorrupted s (now (oam .entry)) r (now (oam .exit)) ⌝ }
@@ -306,7 +298,7 @@ pub fn oam_bug_write(s: State, oam: &mut [u8]) -> u8
     if number != 0 {
         return number;
     }
-    oam_bug::corrupt_write(oam, bug_row(s));
+    oam_bug::corrupt_write(oam, oam_bug::corrupted_row(s.regs.stat % 4, s.beam.cycle));
     number
 }
 
@@ -318,7 +310,7 @@ pub fn oam_bug_read(s: State, oam: &mut [u8]) -> u8
     if number != 0 {
         return number;
     }
-    oam_bug::corrupt_read(oam, bug_row(s));
+    oam_bug::corrupt_read(oam, oam_bug::corrupted_row(s.regs.stat % 4, s.beam.cycle));
     number
 }
 
@@ -330,7 +322,7 @@ pub fn oam_bug_read_write(s: State, oam: &mut [u8]) -> u8
     if number != 0 {
         return number;
     }
-    oam_bug::corrupt_read_write(oam, bug_row(s));
+    oam_bug::corrupt_read_write(oam, oam_bug::corrupted_row(s.regs.stat % 4, s.beam.cycle));
     number
 }
 

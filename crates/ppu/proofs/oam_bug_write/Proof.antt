@@ -1,7 +1,7 @@
 -- `ppu::oam_bug_write` meets its contract.
 use borrow.Author.Tests.{eqb-true}
 use borrow.Author.Needs.{needs}
-use Rattle.ppu.proofs.Bug.{corruptible, bug-refused, bug-done}
+use Rattle.ppu.proofs.Bug.{timely-cycle, corruptible, bug-refused, bug-done}
 use Rattle.ppu.proofs.oam_bug_write.Statement.{statement}
 use Rattle.ppu.proofs.oam_bug_write.Tie as tie
 
@@ -14,14 +14,17 @@ same-length c = search needs
 returns : tie.Need-returns
 returns c = bug-refused (c .before .bug-number .ensures) (c .if1 .taken)
 
-bug-row-requires : tie.Need-bug-row-requires
-bug-row-requires c κs = corruptible (c .before .before .bug-number .ensures) (c .before .if1 .left) .moment
+corrupted-row-requires : tie.Need-corrupted-row-requires
+corrupted-row-requires c κs =
+    let choice = c .before in
+    timely-cycle _ (corruptible (choice .before .before .bug-number .ensures) (choice .before .if1 .left) .moment)
 
 corrupt-write-requires : tie.Need-corrupt-write-requires
 corrupt-write-requires c κs =
-    let choice = c .before .before in
+    let row = c .before in
+    let choice = row .before .before in
     let f = corruptible (choice .before .bug-number .ensures) (choice .if1 .left) in
-    (eqb-true _ _ (f .sized), rw (c .bug-row .ensures) (f .row))
+    (eqb-true _ _ (f .sized), rw (c .corrupted-row .ensures) (f .row))
 
 same-length-2 : tie.Need-same-length-2
 same-length-2 c = search needs
@@ -30,8 +33,9 @@ returns-2 : tie.Need-returns-2
 returns-2 c =
     let done = c .before .before in
     let row = done .before in
-    let choice = row .before .before in
-    bug-done (choice .before .bug-number .ensures) (choice .if1 .left) (row .bug-row .ensures) (done .corrupt-write .ensures)
+    let mode = row .before in
+    let choice = mode .before .before in
+    bug-done (choice .before .bug-number .ensures) (choice .if1 .left) (row .corrupted-row .ensures) (done .corrupt-write .ensures)
 
 pub oam-bug-write-spec : {M : Type 1} → statement M
 oam-bug-write-spec =
@@ -40,7 +44,7 @@ oam-bug-write-spec =
     bug-number-requires
     same-length
     returns
-    bug-row-requires
+    corrupted-row-requires
     corrupt-write-requires
     same-length-2
     returns-2)
