@@ -19,23 +19,23 @@ use Rattle.ppu.specs.Calls.{bugRow, Corruption}
 use Rattle.ppu.proofs.Graded.{graded-fine}
 
 -- in mode 2 a timely one has a cycle from 4 to 83
-pub timely-cycle : (s : State) → timely s ≡ true → modeOf (s .regs .stat) ≡ 2 → (4 ≤ s .beam .cycle) × (s .beam .cycle ≤ 83)
+timely-cycle : (s : State) → timely s ≡ true → modeOf (s .regs .stat) ≡ 2 → (4 ≤ s .beam .cycle) × (s .beam .cycle ≤ 83)
 timely-cycle s e m =
     let both = split _ _ (rw (eq-eqb _ _ m) at e) in
     (leb-true _ _ (both .0), leb-true _ _ (both .1))
 
--- an accepted one: OAM has its length, and the row is one of the twenty
+-- an accepted one: OAM has its length, the moment is right, and the row is one of the twenty
 pub record Corruptible (s : State) (b : Bool) : Type 0 where
   pub sized : b ≡ true
-  pub moment : timely s ≡ true
+  pub moment : modeOf (s .regs .stat) ≡ 2 → (4 ≤ s .beam .cycle) × (s .beam .cycle ≤ 83)
   pub row : bugRow s < oamRows
 
 pub corruptible : {s : State} {sized : Bool} {r : ℕ}
     → Graded s (lowest sized (inOrder s) (own (timely s) 5)) r → r ≡ 0 → Corruptible s sized
 corruptible {s} {sized} g z =
     let f = graded-fine sized g z in
-    let moment = own-none (timely s) (omega arith) (f .own) in
-    record { sized = f .sized; moment = moment; row = row-below _ _ (timely-cycle s moment) }
+    let moment = timely-cycle s (own-none (timely s) (omega arith) (f .own)) in
+    record { sized = f .sized; moment = moment; row = row-below _ _ moment }
 
 module _ {rule : List ℕ → ℕ → List ℕ} {s : State} {oam : List ℕ} {r : ℕ} (g : Graded s (bugNumber s oam) r) where
   pub bug-refused : (r ≡ 0 → ⊥) → Corruption rule s oam r oam

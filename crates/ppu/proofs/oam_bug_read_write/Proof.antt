@@ -1,7 +1,7 @@
 -- `ppu::oam_bug_read_write` meets its contract.
 use borrow.Author.Tests.{eqb-true}
 use borrow.Author.Needs.{needs}
-use Rattle.ppu.proofs.Bug.{timely-cycle, corruptible, bug-refused, bug-done}
+use Rattle.ppu.proofs.Bug.{corruptible, bug-refused, bug-done}
 use Rattle.ppu.proofs.oam_bug_read_write.Statement.{statement}
 use Rattle.ppu.proofs.oam_bug_read_write.Tie as tie
 
@@ -17,7 +17,7 @@ returns c = bug-refused (c .before .bug-number .ensures) (c .if1 .taken)
 corrupted-row-requires : tie.Need-corrupted-row-requires
 corrupted-row-requires c κs =
     let choice = c .before in
-    timely-cycle _ (corruptible (choice .before .before .bug-number .ensures) (choice .before .if1 .left) .moment)
+    corruptible (choice .before .before .bug-number .ensures) (choice .before .if1 .left) .moment
 
 corrupt-read-write-requires : tie.Need-corrupt-read-write-requires
 corrupt-read-write-requires c κs =
