@@ -10,8 +10,8 @@ use Rattle.history.proofs.Kept.{does-lengths}
 
 module _ {w v : World} (h : Alike w v) where
   same-number : (c : Call) → number c w ≡ number c v
-  same-number (step n) = rw (h .state, h .tables, h .a, h .b) refl
-  same-number (write address value) = rw (h .state, h .a, h .b) refl
+  same-number (step n) = rw (h .state, h .tables, h .pictures .a, h .pictures .b) refl
+  same-number (write address value) = rw (h .state, h .pictures .a, h .pictures .b) refl
   same-number (read address) = rw (h .state) refl
   same-number (run.vram address value) = rw (h .state, h .tables) refl
   same-number (run.oam address value) = rw (h .tables) refl
@@ -30,7 +30,11 @@ module _ {w v : World} (h : Alike w v) where
   like d s t =
       let p = does-lengths d w in
       let q = does-lengths d v in
-      record { state = s; tables = t; a = p .a ∙ h .a ∙ sym (q .a); b = p .b ∙ h .b ∙ sym (q .b) }
+      record {
+        state = s;
+        tables = t;
+        pictures = record { a = p .a ∙ h .pictures .a ∙ sym (q .a); b = p .b ∙ h .pictures .b ∙ sym (q .b) };
+      }
 
   does-alike : (d : Deed) → Alike (does d w) (does d v)
   does-alike (steps n) = like (steps n) (rw (h .state, h .tables) refl) (h .tables)

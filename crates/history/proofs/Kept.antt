@@ -11,7 +11,7 @@ use Rattle.hardware.specs.declared.Machine.{Machine}
 use Rattle.hardware.specs.Tables.{tablesFit, TablesSized, vramBytes, oamBytes}
 use Rattle.hardware.proofs.Tables.{tables-fit}
 use Rattle.lcd.proofs.Pictures.{pictures-fit}
-use Rattle.lcd.specs.Pictures.{Pictures, picturesFit, PicturesSized, filledWith}
+use Rattle.lcd.specs.Pictures.{Pictures, picturesFit, PicturesSized, SameLengths, filledWith}
 use Rattle.registers.specs.Write.{kept, blanks}
 use Rattle.draw.specs.declared.Shot.{Shot}
 use Rattle.burst.specs.Burst.{allStored, shotStored, drawnInto}
@@ -39,11 +39,6 @@ unfolding allStored
 stored-length picture [] = refl
 stored-length picture (shot ∷ rest) = stored-length (shotStored picture shot) rest ∙ shot-length picture shot
 
--- every deed keeps the lengths of the pictures, whatever they are
-pub record SameLengths (p q : Pictures) : Type 0 where
-  pub a : length (p .a) ≡ length (q .a)
-  pub b : length (p .b) ≡ length (q .b)
-
 -- the draws of a step, and a blanking
 into-lengths : (shown : ℕ) (shots : List Shot) (p : Pictures) → SameLengths (drawnInto shown shots p) p
 into-lengths zero shots p = record { a = refl; b = stored-length (p .b) shots }
@@ -52,6 +47,7 @@ into-lengths (suc k) shots p = record { a = stored-length (p .a) shots; b = refl
 filled-lengths : (p : Pictures) → SameLengths (filledWith 255 p) p
 filled-lengths p = record { a = length-replicate {A = ℕ} (length (p .a)) 255; b = length-replicate {A = ℕ} (length (p .b)) 255 }
 
+-- every deed keeps the lengths of the pictures, whatever they are
 pub does-lengths : (d : Deed) (w : World) → SameLengths (does d w .pictures) (w .pictures)
 does-lengths (steps n) w = into-lengths (w .state .beam .shown) (shotsOf n (w .tables) (w .state)) (w .pictures)
 does-lengths (writes address value) w =

@@ -8,7 +8,7 @@ use mathlib.Core.List.{List, [], _∷_, List·Memᴰ}
 use lib.ListN.{length, replicate}
 use Rattle.hardware.specs.Screen.{places}
 use Rattle.hardware.specs.declared.Machine.{Machine}
-use Rattle.lcd.specs.Pictures.{Pictures, PicturesSized, shownOf}
+use Rattle.lcd.specs.Pictures.{Pictures, PicturesSized, SameLengths, shownOf}
 use Rattle.state.specs.With.{modeOf}
 use Rattle.step.specs.Step.{lit, report}
 use Rattle.step.specs.declared.Report.{Report}
@@ -100,8 +100,7 @@ Marked = EveryRun (λ (t : Trace). (n : ℕ) → swapped (step n) (t .world) ≡
 pub record Alike (w v : World) : Type 0 where
   pub state : w .state ≡ v .state
   pub tables : w .tables ≡ v .tables
-  pub a : length (w .pictures .a) ≡ length (v .pictures .a)
-  pub b : length (w .pictures .b) ≡ length (v .pictures .b)
+  pub pictures : SameLengths (w .pictures) (v .pictures)
 
 pub record AlikeRuns (t u : Trace) : Type 0 where
   pub world : Alike (t .world) (u .world)

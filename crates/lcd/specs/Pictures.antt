@@ -39,6 +39,11 @@ pub record PicturesSized (p : Pictures) : Type 0 where
   pub a : length (p .a) ≡ pictureBytes
   pub b : length (p .b) ≡ pictureBytes
 
+-- two pairs are of the same lengths, whatever they hold
+pub record SameLengths (p q : Pictures) : Type 0 where
+  pub a : length (p .a) ≡ length (q .a)
+  pub b : length (p .b) ≡ length (q .b)
+
 -- both filled with one byte
 abbrev pub filledWith : ℕ → Pictures → Pictures
 filledWith v p = pictures (replicate (length (p .a)) v) (replicate (length (p .b)) v)
