@@ -1,10 +1,15 @@
-//! The named cases of the document, with its figures checked against the machine.
+//! The named cases of document 01, with its figures checked against the machine, and those of docs/DIFFERENCES.md.
 
 use crate::leaves::Leaves;
 use crate::list::request;
 use crate::machine_lists::Run;
+use crate::memory::{InterruptManager, InterruptType};
 use crate::ppu::parts::LCD_WIDTH;
+use crate::ppu::Ppu;
+use crate::surroundings::warnings;
+use crate::GameBoyConfig;
 use std::io::{self, Write};
+use std::panic::{self, AssertUnwindSafe};
 
 /// A name, what the document says, what came out.
 struct Case {
@@ -18,6 +23,17 @@ fn case(name: &str, said: impl ToString, found: impl ToString) -> Case {
         name: name.to_string(),
         said: said.to_string(),
         found: found.to_string(),
+    }
+}
+
+/// A case where Pan Docs has another answer: both stand in it, and they must not be the same.
+fn parting(name: &str, said: impl ToString, pan_docs: impl ToString, found: impl ToString) -> Case {
+    let (said, pan_docs) = (said.to_string(), pan_docs.to_string());
+    let differ = if said == pan_docs { ", which is no difference" } else { "" };
+    Case {
+        name: format!("Pan Docs, {}", name),
+        said: format!("{} (Pan Docs: {}){}", said, pan_docs, differ),
+        found: format!("{} (Pan Docs: {})", found.to_string(), pan_docs),
     }
 }
 
@@ -451,6 +467,597 @@ pub fn torn_picture(out: &mut dyn Write) -> io::Result<()> {
     out.flush()
 }
 
+/// The published crate's requests go nowhere here.
+struct Nobody;
+
+impl InterruptManager for Nobody {
+    fn request_interrupt(&mut self, _interrupt: InterruptType) {}
+}
+
+/// Whether the given text stops in a call; its words are kept from standard error.
+fn stops(call: impl FnOnce()) -> bool {
+    let hook = panic::take_hook();
+    panic::set_hook(Box::new(|_| {}));
+    let stopped = panic::catch_unwind(AssertUnwindSafe(call)).is_err();
+    panic::set_hook(hook);
+    stopped
+}
+
+/// What docs/DIFFERENCES.md says of the published crate: the unit's answer, and what the given text itself does where it
+/// is called past the oracle's refusals. Such a call stands in no list, and none of them changes the machine of the run.
+fn published_cases(run: &mut Run) -> Vec<Case> {
+    let mut cases = Vec::new();
+    let dmg = GameBoyConfig { is_dmg: true };
+    let colour = GameBoyConfig { is_dmg: false };
+
+    run.call(&[1, 0, 1]);
+    cases.push(case(
+        "published, STAT at the start: here; published",
+        "01; 05",
+        format!(
+            "{:02X}; {:02X}",
+            run.machine.ppu.look_stat(),
+            Ppu::new_skip_boot_rom(true, colour).look_stat()
+        ),
+    ));
+
+    run.call(&[1, 0, 1]);
+    let three = run.step(3)[0];
+    run.step(2);
+    let four = run.step(4)[0];
+    let mut free = Ppu::new_skip_boot_rom(true, colour);
+    free.clock(&mut Nobody, 3);
+    cases.push(case(
+        "published, a step of 3, and a step of 4 at cycle 402: numbers; published: the cycle after a step of 3",
+        "3 3; 403",
+        format!("{} {}; {}", three, four, free.look_cycle()),
+    ));
+
+    let number = run.call(&[6, 0xA0, 0xFE, 0])[0];
+    let stopped = stops(|| Ppu::new_skip_boot_rom(true, colour).write_oam_no_lock(0xFEA0, 0));
+    cases.push(case(
+        "published, an OAM write at FEA0: number; published stops",
+        "4; true",
+        format!("{}; {}", number, stopped),
+    ));
+
+    // The given text stops before it writes, so OAM stays as it was.
+    run.call(&[1, 0, 1]);
+    steps(run, TO_LINE_0);
+    run.step(2);
+    let numbers = [8, 9, 10].map(|op| run.call(&[op])[0]);
+    let ppu = &mut run.machine.ppu;
+    let stopped = [
+        stops(|| ppu.oam_bug_write()),
+        stops(|| ppu.oam_bug_read()),
+        stops(|| ppu.oam_bug_read_write()),
+    ];
+    run.call(&[11]);
+    cases.push(case(
+        "published, a corruption in mode 2 at cycle 2: numbers; published stops",
+        "[5, 5, 5]; [true, true, true]",
+        format!("{:?}; {:?}", numbers, stopped),
+    ));
+
+    // Discard 1 is left over at LCD x 1, where the window is entered.
+    run.call(&[1, 1, 0]);
+    steps(run, TO_LINE_0 + 24);
+    run.register(0x40, ON & 0x7F);
+    run.register(0x43, 1);
+    run.register(0x4B, 8);
+    run.register(0x40, ON_WINDOW);
+    steps(run, 19);
+    let before = line_and_x(run).1;
+    steps(run, 1);
+    run.call(&[12]);
+    cases.push(case(
+        "published, 7 - WX passes a byte: LCD x before the step, WX, discard after it",
+        format!("1 8 {}", (256 + 7 - 8) % 256),
+        format!("{} 8 {}", before, run.machine.ppu.look_discard()),
+    ));
+
+    // Line 0 ends in the window, off, on, and again: the window row counts on.
+    run.call(&[1, 1, 0]);
+    run.register(0x4B, 7);
+    run.register(0x40, ON_WINDOW);
+    steps(run, TO_LINE_0 + 64);
+    let mut rows = vec![run.machine.ppu.look_window_row()];
+    for line in 2..=256 {
+        run.register(0x40, ON_WINDOW & 0x7F);
+        run.register(0x40, ON_WINDOW);
+        steps(run, 63);
+        if line >= 255 {
+            rows.push(run.machine.ppu.look_window_row());
+            run.call(&[12]);
+        }
+    }
+    cases.push(case(
+        "published, the window row passes a byte: row after 1, 255 and 256 lines in the window",
+        format!("{:?}", [1, 255, 256 % 256]),
+        format!("{:?}", rows),
+    ));
+
+    // The warning belongs to lines below 144; a fresh start stands on line 153.
+    let mut warned = Vec::new();
+    for count in [0, TO_LINE_0] {
+        run.call(&[1, 1, 0]);
+        steps(run, count);
+        let (line, before) = (line_and_x(run).0, warnings());
+        run.register(0x40, ON & 0x7F);
+        warned.push((line, warnings() - before));
+    }
+    cases.push(case(
+        "published, the warning at a blanking: line, warnings printed by the published crate",
+        "[(153, 0), (0, 1)]",
+        format!("{:?}", warned),
+    ));
+
+    // A write to FF44 and the readers that 01 leaves out.
+    run.call(&[1, 1, 0]);
+    run.call(&[12]);
+    let written = run.call(&[3, 0x44, 0xFF, 99])[0];
+    run.call(&[12]);
+    let cut = [0x40, 0x41, 0x42, 0x43, 0x44, 0x45, 0x47, 0x48, 0x49, 0x4A, 0x4B, 0x4F, 0x6C];
+    let refused = cut.iter().filter(|&&low| run.call(&[4, low, 0xFF])[0] == 4).count();
+    let mut free = Ppu::new_skip_boot_rom(false, dmg);
+    free.write_ly(99);
+    cases.push(case(
+        "published, write_ly and the readers of 13 registers: numbers; published: LY after it, LCDC, STAT, VBK, FF6C",
+        "4, 13 refused by 4; 0 91 85 FE FF",
+        format!(
+            "{}, {} refused by 4; {} {:02X} {:02X} {:02X} {:02X}",
+            written,
+            refused,
+            free.read_ly(),
+            free.read_lcd_control(),
+            free.read_lcd_status(),
+            free.read_vram_bank(),
+            free.read_sprite_priority_mode()
+        ),
+    ));
+
+    // Mode 2: the published crate's locked entries, beside the one that 01 takes.
+    run.call(&[1, 1, 0]);
+    steps(run, TO_LINE_0 + 2);
+    let number = run.call(&[6, 0, 0xFE, 0x12])[0];
+    let byte = run.machine.ppu.look_oam()[0];
+    run.machine.ppu.write_oam(0xFE00, 0x34);
+    run.call(&[11]);
+    cases.push(case(
+        "published, an OAM write in mode 2: number, byte; published: byte after a locked write, byte read",
+        "0 12; 12 FF",
+        format!(
+            "{} {:02X}; {:02X} {:02X}",
+            number,
+            byte,
+            run.machine.ppu.look_oam()[0],
+            run.machine.ppu.read_oam(0xFE00)
+        ),
+    ));
+
+    // Calls that have no counterpart here.
+    let new = Ppu::new(dmg);
+    cases.push(case(
+        "published, Ppu::new: LCDC, STAT, line, cycle",
+        "00 04 0 4",
+        format!(
+            "{:02X} {:02X} {} {}",
+            new.read_lcd_control(),
+            new.look_stat(),
+            new.look_line(),
+            new.look_cycle()
+        ),
+    ));
+    let stopped = [dmg, colour].map(|config| {
+        let mut ppu = Ppu::new_skip_boot_rom(!config.is_dmg, config);
+        ppu.write_vram(0x8000, 0xFF);
+        ppu.write_vram(0x8001, 0xFF);
+        for _ in 0..TO_LINE_0 + 70 {
+            ppu.clock(&mut Nobody, 4);
+        }
+        ppu.enter_stop_mode();
+        let (shown, other) = (ppu.look_lcd().look_picture(0), ppu.look_lcd().look_picture(1));
+        [shown[0], other[0], other[other.len() - 1]]
+    });
+    cases.push(case(
+        "published, enter_stop_mode behind a dark line 0: first byte shown, first and last byte of the other; DMG, not DMG",
+        "[[255, 255, 255], [0, 0, 255]]",
+        format!("{:?}", stopped),
+    ));
+    cases
+}
+
+/// The first bytes of places of a line of the picture not shown; outside colour mode 240, 168, 80, 0, white to black.
+fn shades(run: &Run, y: usize, columns: &[usize]) -> Vec<u8> {
+    columns.iter().map(|&x| place(run, 1, x, y)[0]).collect()
+}
+
+/// The mode 3 end, in steps of 2, of a line 0 with so many dots of mode 3.
+fn end_after(dots: u16) -> u16 {
+    80 + (dots - 1) / 2 * 2
+}
+
+/// On DMG: calls, then line 0 in steps of 2 to the end of mode 3; that end.
+fn end_in_twos(run: &mut Run, calls: impl Fn(&mut Run)) -> u16 {
+    run.call(&[1, 1, 0]);
+    calls(run);
+    steps(run, TO_LINE_0 + 20);
+    run.step(2);
+    while run.step(2)[2] == 3 {}
+    let look = run.call(&[15]);
+    u16::from_le_bytes([look[6], look[7]])
+}
+
+/// What docs/DIFFERENCES.md says of Pan Docs, in its order: each with the Rust's answer and the other.
+fn pan_docs_cases(run: &mut Run) -> Vec<Case> {
+    let mut cases = Vec::new();
+
+    // WY becomes 0 behind the start of mode 2 of line 0; the window map has a dark tile.
+    run.call(&[1, 1, 0]);
+    for (address, byte) in [(0x8010, 0xFF), (0x8011, 0xFF), (0x9C00, 1)] {
+        run.vram(address, byte);
+    }
+    run.register(0x4B, 7);
+    run.register(0x4A, 1);
+    run.register(0x40, 0xF1);
+    steps(run, TO_LINE_0 + 2);
+    run.register(0x4A, 0);
+    steps(run, 22);
+    run.call(&[11]);
+    cases.push(parting(
+        "WY 0 written in mode 2 of line 0: place 0",
+        "[0]",
+        "[240]",
+        format!("{:?}", shades(run, 0, &[0])),
+    ));
+
+    // On DMG: the attribute in bank 1 asks for bank 1, where tile 0 is dark.
+    run.call(&[1, 1, 0]);
+    run.register(0x4F, 1);
+    for (address, byte) in [(0x9800, 8), (0x8000, 0xFF), (0x8001, 0xFF)] {
+        run.vram(address, byte);
+    }
+    steps(run, TO_LINE_0 + 24);
+    run.call(&[11]);
+    cases.push(parting(
+        "a tile attribute on DMG: place 0",
+        "[0]",
+        "[240]",
+        format!("{:?}", shades(run, 0, &[0])),
+    ));
+
+    // A dark sprite in columns 4 to 11, the window from column 8 on, seen and not seen.
+    for (control, name) in [
+        (0xB3, "a sprite where the window starts"),
+        (0xB2, "a sprite where a window starts that nobody sees"),
+    ] {
+        run.call(&[1, 1, 0]);
+        sprite_scene(run, 16, 12);
+        run.register(0x4B, 15);
+        run.register(0x40, control);
+        steps(run, TO_LINE_0 + 32);
+        run.call(&[11]);
+        cases.push(parting(
+            &format!("{}: places 4, 7, 8, 11", name),
+            "[0, 0, 240, 240]",
+            "[0, 0, 0, 0]",
+            format!("{:?}", shades(run, 0, &[4, 7, 8, 11])),
+        ));
+    }
+
+    // Line 0 with LCDC bit 0 clear, line 1 with it set: the window's tile is dark in its row 1.
+    run.call(&[1, 1, 0]);
+    for (address, byte) in [(0x8012, 0xFF), (0x8013, 0xFF), (0x9C00, 1)] {
+        run.vram(address, byte);
+    }
+    run.register(0x4B, 7);
+    run.register(0x40, 0xF0);
+    steps(run, TO_LINE_0 + 114);
+    run.register(0x40, 0xF1);
+    steps(run, 24);
+    run.call(&[11]);
+    cases.push(parting(
+        "the window row behind a line with LCDC bit 0 clear: place 0 of line 1",
+        "[0]",
+        "[240]",
+        format!("{:?}", shades(run, 1, &[0])),
+    ));
+
+    run.call(&[1, 1, 0]);
+    run.register(0x47, 3);
+    run.register(0x40, 0x90);
+    steps(run, TO_LINE_0 + 24);
+    run.call(&[11]);
+    cases.push(parting(
+        "LCDC bit 0 clear on DMG with BGP 03: place 0",
+        "[0]",
+        "[240]",
+        format!("{:?}", shades(run, 0, &[0])),
+    ));
+
+    // Tile 1 is dark in bank 0 alone.
+    run.call(&[1, 1, 0]);
+    sprite_scene(run, 16, 8);
+    run.oam(3, 8);
+    steps(run, TO_LINE_0 + 24);
+    run.call(&[11]);
+    cases.push(parting(
+        "OAM flag bit 3 on DMG: place 0",
+        "[240]",
+        "[0]",
+        format!("{:?}", shades(run, 0, &[0])),
+    ));
+
+    // Entry 0 is black, entry 1 grey and one column further left.
+    let mut found = Vec::new();
+    for (x, column) in [(8, 0), (10, 2)] {
+        run.call(&[1, 1, 0]);
+        sprite_scene(run, 16, x);
+        for (address, byte) in [(4, 16), (5, x - 1), (6, 1), (7, 0x10)] {
+            run.oam(address, byte);
+        }
+        run.register(0x49, 0x55);
+        steps(run, TO_LINE_0 + 25);
+        run.call(&[11]);
+        found.extend(shades(run, 0, &[column]));
+    }
+    cases.push(parting(
+        "sprites by coordinate: place 0 with x 8 before x 7, place 2 with x 10 before x 9",
+        "[0, 168]",
+        "[168, 168]",
+        format!("{:?}", found),
+    ));
+
+    // In colour mode entry 0 is black, entry 1 red and one column further left.
+    run.call(&[1, 0, 1]);
+    sprite_scene(run, 16, 10);
+    for (address, byte) in [(4, 16), (5, 9), (6, 1), (7, 1)] {
+        run.oam(address, byte);
+    }
+    for (low, value) in [(0x6A, 0x8E), (0x6B, 0x1F), (0x6B, 0), (0x6C, 1)] {
+        run.register(low, value);
+    }
+    steps(run, TO_LINE_0 + 25);
+    run.call(&[11]);
+    cases.push(parting(
+        "FF6C 1 in colour mode: place 2 with x 10 before x 9",
+        "[201]",
+        "[0]",
+        format!("{:?}", shades(run, 0, &[2])),
+    ));
+
+    // The window's first tile is dark.
+    run.call(&[1, 1, 0]);
+    for (address, byte) in [(0x8010, 0xFF), (0x8011, 0xFF), (0x8012, 0xFF), (0x8013, 0xFF), (0x9C00, 1)] {
+        run.vram(address, byte);
+    }
+    run.register(0x4B, 166);
+    run.register(0x40, 0xF1);
+    steps(run, TO_LINE_0 + 2 * 114);
+    run.call(&[11]);
+    cases.push(parting(
+        "WX 166: places 0, 158, 159 of line 1",
+        "[240, 240, 0]",
+        "[0, 240, 240]",
+        format!("{:?}", shades(run, 1, &[0, 158, 159])),
+    ));
+
+    // Column 7 of the window's first tile is dark.
+    let mut found = Vec::new();
+    for scroll in [0, 3] {
+        run.call(&[1, 1, 0]);
+        for (address, byte) in [(0x8010, 1), (0x8011, 1), (0x9C00, 1)] {
+            run.vram(address, byte);
+        }
+        run.register(0x4B, 0);
+        run.register(0x43, scroll);
+        run.register(0x40, 0xF1);
+        steps(run, TO_LINE_0 + 26);
+        run.call(&[11]);
+        found.extend(shades(run, 0, &[0]));
+    }
+    cases.push(parting(
+        "WX 0: place 0 with SCX 0 and with SCX 3",
+        "[0, 0]",
+        "two that differ",
+        format!("{:?}", found),
+    ));
+
+    // Mode 3: 175 dots and SCX modulo 8; with SCX 0 and the window 182 - WX, from WX 8 on 190 - (WX modulo 8); sprites
+    // take none.
+    let found = end_in_twos(run, |_| ());
+    cases.push(parting("the least mode 3: its end in steps of 2", end_after(175), end_after(172), found));
+    let found = end_in_twos(run, |run| run.register(0x43, 7));
+    cases.push(parting("mode 3 with SCX 7: its end in steps of 2", end_after(175 + 7), end_after(172 + 7), found));
+    let found = [0, 7, 8, 15].map(|x| {
+        end_in_twos(run, |run| {
+            run.register(0x4B, x);
+            run.register(0x40, ON_WINDOW);
+        })
+    });
+    cases.push(parting(
+        "mode 3 with the window at WX 0, 7, 8, 15: its end in steps of 2",
+        format!("{:?}", [182, 182 - 7, 190, 190 - 7].map(end_after)),
+        format!("{:?}", [172 + 6; 4].map(end_after)),
+        format!("{:?}", found),
+    ));
+    let found = end_in_twos(run, |run| sprite_scene(run, 16, 8));
+    cases.push(parting(
+        "mode 3 with a sprite: its end in steps of 2",
+        end_after(175),
+        format!("{} to {}", end_after(172 + 6), end_after(172 + 11)),
+        found,
+    ));
+
+    // Row 0 of tile 0 has colour 1, row 1 colour 2; a row of both planes mixed would have 0 or 3.
+    let mut mixed = 0;
+    for half in 20..24 {
+        run.call(&[1, 1, 0]);
+        for (address, byte) in [(0x8000, 0xFF), (0x8003, 0xFF)] {
+            run.vram(address, byte);
+        }
+        run.register(0x47, 0xE4);
+        steps(run, TO_LINE_0 + 20);
+        for _ in 0..half {
+            run.step(2);
+        }
+        run.register(0x42, 1);
+        for _ in half..80 {
+            run.step(2);
+        }
+        run.call(&[11]);
+        let columns: Vec<usize> = (0..80).collect();
+        mixed += shades(run, 0, &columns).iter().filter(|&&shade| shade != 168 && shade != 80).count();
+    }
+    cases.push(parting(
+        "SCY written at cycles 120, 122, 124, 126: places of neither row",
+        0,
+        "8 or more, before CGB-D",
+        mixed,
+    ));
+
+    // Entry 39 is on line 0 at height 16 alone, which comes behind cycle 4 and long before its turn.
+    run.call(&[1, 1, 0]);
+    for (address, byte) in [(0x8010, 0xFF), (0x8011, 0xFF)] {
+        run.vram(address, byte);
+    }
+    run.oam(156, 8);
+    run.oam(157, 8);
+    run.register(0x40, ON_SPRITES);
+    steps(run, TO_LINE_0 + 2);
+    run.register(0x40, ON_SPRITES | 4);
+    steps(run, 22);
+    run.call(&[11]);
+    cases.push(parting(
+        "height 16 written at cycle 8, a sprite in entry 39: place 0",
+        "[240]",
+        "[0]",
+        format!("{:?}", shades(run, 0, &[0])),
+    ));
+
+    run.call(&[1, 0, 1]);
+    run.oam(2, 0x12);
+    steps(run, TO_LINE_0 + 2);
+    run.call(&[8]);
+    run.call(&[11]);
+    cases.push(parting(
+        "OAM corruption in colour mode: byte 10, over which byte 2 is copied",
+        "12",
+        "00",
+        format!("{:02X}", run.machine.ppu.look_oam()[10]),
+    ));
+
+    run.call(&[1, 0, 1]);
+    run.register(0x68, 0);
+    steps(run, TO_LINE_0 + 21);
+    let mode = run.machine.ppu.get_current_mode();
+    run.register(0x69, 0xAA);
+    steps(run, 50);
+    let byte = run.call(&[4, 0x69, 0xFF])[1];
+    cases.push(parting(
+        "palette data written in mode 3: the mode, the byte read in mode 0",
+        "3 AA",
+        "3 00",
+        format!("{} {:02X}", mode, byte),
+    ));
+
+    run.call(&[1, 1, 0]);
+    run.register(0x68, 0x80);
+    run.register(0x69, 0x1F);
+    run.register(0x69, 0);
+    steps(run, TO_LINE_0 + 24);
+    run.call(&[11]);
+    cases.push(parting(
+        "a palette written on DMG: place 0",
+        "[201, 0, 46]",
+        "[240, 240, 240]",
+        format!("{:?}", place(run, 1, 0, 0)),
+    ));
+
+    run.call(&[1, 1, 0]);
+    steps(run, TO_LINE_0 + 21);
+    let mode = run.machine.ppu.get_current_mode();
+    run.vram(0x8000, 0xFF);
+    run.vram(0x8001, 0xFF);
+    steps(run, 3);
+    run.call(&[11]);
+    cases.push(parting(
+        "VRAM written in mode 3: the mode, place 0",
+        "3 [0]",
+        "3 [240]",
+        format!("{} {:?}", mode, shades(run, 0, &[0])),
+    ));
+
+    run.call(&[1, 1, 0]);
+    steps(run, TO_LINE_0 + 2);
+    let mode = run.machine.ppu.get_current_mode();
+    run.oam(0, 0x12);
+    run.call(&[11]);
+    cases.push(parting(
+        "OAM written in mode 2: the mode, the byte",
+        "2 12",
+        "2 00",
+        format!("{} {:02X}", mode, run.machine.ppu.look_oam()[0]),
+    ));
+
+    run.call(&[1, 1, 0]);
+    run.register(0x41, 0);
+    let answer = run.step(4);
+    cases.push(parting("STAT written in mode 1 on DMG: request bits", 0, 2, answer[1]));
+
+    // Bit 5 and bit 6: mode 2 holds the level only at cycle 4, so that LY = LYC at cycle 12 finds it low.
+    run.call(&[1, 1, 0]);
+    run.register(0x45, 99);
+    run.register(0x41, 0x60);
+    steps(run, TO_LINE_0);
+    let mut found = vec![run.step(4)[1], run.step(4)[1], run.step(4)[1]];
+    run.register(0x45, 0);
+    found.push(run.step(4)[1]);
+    cases.push(parting(
+        "STAT bits 5 and 6 on DMG, LY = LYC from cycle 12 on: request bits at cycles 0, 4, 8, 12 of line 0",
+        "[0, 2, 0, 2]",
+        "[2, 0, 0, 0]",
+        format!("{:?}", found),
+    ));
+
+    // Off and on, then a whole frame with STAT bit 5: its first line, lines 144 and 153, the picture shown at its end.
+    run.call(&[1, 1, 0]);
+    run.vram(0x8000, 0xFF);
+    run.vram(0x8001, 0xFF);
+    run.register(0x41, 0x20);
+    steps(run, TO_LINE_0);
+    run.register(0x40, ON & 0x7F);
+    run.register(0x40, ON);
+    let first = run.step(4)[2];
+    steps(run, 144 * 114 - 2);
+    let found = [run.step(4), run.step(4)].map(|answer| (answer[2], answer[1]));
+    steps(run, 9 * 114 - 2);
+    let last = [run.step(4), run.step(4), run.step(4)].map(|answer| answer[4]);
+    steps(run, 114 - 4);
+    let swapped = run.step(4)[5];
+    run.call(&[11]);
+    cases.push(parting("the first step after switching on: mode", 0, 2, first));
+    cases.push(parting(
+        "STAT bit 5 on DMG, the first two steps of 4 of line 144: mode and request bits",
+        "[(0, 0), (1, 3)]",
+        "[(1, 1), (1, 0)]",
+        format!("{:?}", found),
+    ));
+    cases.push(parting(
+        "the first three steps of 4 of line 153: LY",
+        "[153, 0, 0]",
+        "[153, 153, 153]",
+        format!("{:?}", last),
+    ));
+    cases.push(parting(
+        "the swap after switching on: swapped, place 0 of line 0 as shown",
+        "1 [0, 0, 0]",
+        "1 [255, 255, 255]",
+        format!("{} {:?}", swapped, place(run, 0, 0, 0)),
+    ));
+    cases
+}
+
 /// P1 to P6, P8 and P10, by the protocol `leaves`.
 fn leaf_cases() -> Vec<Case> {
     let mut leaves = Leaves::new();
@@ -525,6 +1132,8 @@ fn all(out: &mut dyn Write) -> io::Result<Vec<Case>> {
     }
     cases.extend(column_case(&mut run));
     cases.extend(torn_case(&mut run));
+    cases.extend(published_cases(&mut run));
+    cases.extend(pan_docs_cases(&mut run));
     run.finish()?;
     Ok(cases)
 }

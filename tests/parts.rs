@@ -3,6 +3,8 @@
 
 #[path = "harness/bench.rs"]
 mod bench;
+#[path = "harness/bytes.rs"]
+mod bytes;
 #[path = "harness/draw.rs"]
 mod draw;
 #[path = "harness/fifo.rs"]

@@ -43,6 +43,14 @@ impl Ppu {
         self.fetcher.x
     }
 
+    pub fn look_window_row(&self) -> u8 {
+        self.window_y_counter
+    }
+
+    pub fn look_discard(&self) -> u8 {
+        self.fine_scroll_x_discard
+    }
+
     /// Whether a fetched row waits, and the lengths of the two queues.
     pub fn look_queues(&self) -> (bool, usize, usize) {
         (

@@ -1,6 +1,7 @@
 //! The OAM corruption: every row, mode and kind of access.
 
-use crate::bench::{caught, fill, set_bytes, shrink, Bench};
+use crate::bench::{caught, fill, Bench};
+use crate::bytes::{set_bytes, shrink};
 use given::ppu::Ppu;
 use rattle::oam_bug;
 

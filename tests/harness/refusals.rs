@@ -140,15 +140,16 @@ fn make(call: Call, s: State, m: &mut Memory) -> (u8, String) {
         }
         ReadRegister(address) => {
             let t = ppu::read_register(s, address);
+            let kept = t.state == s && (t.number == 0 || t.value == 0);
             (
                 t.number,
-                told(t.number == 0 || t.value == 0, "a value of 0"),
+                told(kept, "the state as given, and a value of 0 where refused"),
             )
         }
-        WriteVram(address, value) => (
-            ppu::write_vram(s, &mut m.vram, address, value),
-            String::new(),
-        ),
+        WriteVram(address, value) => {
+            let t = ppu::write_vram(s, &mut m.vram, address, value);
+            (t.number, told(t.state == s, "the state as given"))
+        }
         WriteOam(address, value) => (ppu::write_oam(&mut m.oam, address, value), String::new()),
         SetColour(flag) => {
             let t = ppu::set_colour(s, flag);
@@ -157,9 +158,14 @@ fn make(call: Call, s: State, m: &mut Memory) -> (u8, String) {
                 told(t.number == 0 || t.state == s, "the state as given"),
             )
         }
-        BugWrite => (ppu::oam_bug_write(s, &mut m.oam), String::new()),
-        BugRead => (ppu::oam_bug_read(s, &mut m.oam), String::new()),
-        BugReadWrite => (ppu::oam_bug_read_write(s, &mut m.oam), String::new()),
+        BugWrite | BugRead | BugReadWrite => {
+            let t = match call {
+                BugWrite => ppu::oam_bug_write(s, &mut m.oam),
+                BugRead => ppu::oam_bug_read(s, &mut m.oam),
+                _ => ppu::oam_bug_read_write(s, &mut m.oam),
+            };
+            (t.number, told(t.state == s, "the state as given"))
+        }
         Pick(line, tall) => {
             let t = ppu::pick(&m.oam, line, tall);
             let empty = t.selection.count == 0 && t.selection.slots == rattle::sprite::blank();
@@ -170,9 +176,13 @@ fn make(call: Call, s: State, m: &mut Memory) -> (u8, String) {
             let wanted = if s.beam.shown == 0 { &m.a } else { &m.b };
             // whole and unmoved where it is given; the number is that of an empty part
             let whole = std::ptr::eq(part, &wanted[..]) && !part.is_empty();
+            let nothing = part.is_empty() && std::ptr::eq(part.as_ptr(), m.a.as_ptr());
             (
                 (!whole) as u8,
-                told(whole || part.is_empty(), "the shown picture or nothing"),
+                told(
+                    whole || nothing,
+                    "the shown picture or the empty part of picture A",
+                ),
             )
         }
     }

@@ -36,17 +36,25 @@ pub fn answer(
         }
         4 => {
             let t = ppu::read_register(*s, address);
-            (out[0], out[1]) = (t.number, t.value);
+            (out[0], out[1], *s) = (t.number, t.value, t.state);
         }
-        5 => out[0] = ppu::write_vram(*s, &mut m.vram, address, q[3]),
+        5 => {
+            let t = ppu::write_vram(*s, &mut m.vram, address, q[3]);
+            (out[0], *s) = (t.number, t.state);
+        }
         6 => out[0] = ppu::write_oam(&mut m.oam, address, q[3]),
         7 => {
             let t = ppu::set_colour(*s, q[1] != 0);
             (out[0], *s) = (t.number, t.state);
         }
-        8 => out[0] = ppu::oam_bug_write(*s, &mut m.oam),
-        9 => out[0] = ppu::oam_bug_read(*s, &mut m.oam),
-        10 => out[0] = ppu::oam_bug_read_write(*s, &mut m.oam),
+        8..=10 => {
+            let t = match q[0] {
+                8 => ppu::oam_bug_write(*s, &mut m.oam),
+                9 => ppu::oam_bug_read(*s, &mut m.oam),
+                _ => ppu::oam_bug_read_write(*s, &mut m.oam),
+            };
+            (out[0], *s) = (t.number, t.state);
+        }
         11 | 12 => {}
         13 => {
             let t = ppu::pick(&m.oam, q[1], q[2]);

@@ -1,6 +1,6 @@
 -- Pan Docs, "LCD Color Palettes": eight palettes of four colours as 64 bytes, low byte first, behind an index port.
 use Prim.Native.Nat.{ℕ, _+_, _*_, _/_, _%_}
-use mathlib.Core.Bool.{Bool, true, false}
+use mathlib.Core.Bool.{Bool, true, false, cond}
 use mathlib.Core.List.{List, [], _∷_}
 use lib.ListN.{getD, set, replicate}
 use lib.Seq.{sets}
@@ -62,6 +62,10 @@ next false i = i
 -- a data write: the byte at the index
 abbrev pub dataWritten : PaletteSet → ℕ → PaletteSet
 dataWritten s v = record { bytes = set (s .bytes) (s .index) v; index = next (s .auto) (s .index); auto = s .auto }
+
+-- a write to the data port, or else to the index port
+abbrev pub afterWrite : PaletteSet → Bool → ℕ → PaletteSet
+afterWrite s to-data v = cond to-data (dataWritten s v) (indexWritten s v)
 
 -- what the index port reads as: bit 6 is always set
 abbrev pub indexRead : PaletteSet → ℕ

@@ -1,11 +1,13 @@
 // Colours: 15 bits a colour, eight palettes of four behind an index port, and the shades of a palette byte.
 ghost use mathlib.Core.Path.{_≡_};
+ghost use mathlib.Core.Bool.{true};
 ghost use Prim.Native.Nat.{_<_, _+_, _*_, _/_, _%_};
 ghost use lib.ListN.{set};
 ghost use Rattle.colors.specs.Colour.{colourOf, rawOf};
 ghost use Rattle.colors.specs.Shade.{shade};
 ghost use Rattle.colors.specs.Palettes.{colourAt, paletteOf, palette, paletteSet, greys, word};
-ghost use Rattle.colors.specs.Palettes.{freshSet, indexWritten, dataWritten, indexRead, dataRead};
+ghost use Rattle.colors.specs.Palettes.{freshSet, indexWritten, dataWritten, afterWrite, next, indexRead, dataRead};
+ghost use Rattle.wrap.specs.Wrap.{bitAt};
 
 pub struct Color {
     pub r: u8,
@@ -105,26 +107,32 @@ impl PaletteSet {
         }
     }
 
-    pub fn write_index(self, data: u8) -> Self
-        ensures { λ r. ⌜ r ≡ indexWritten self «data» ⌝ }
+    pub fn write_index(&mut self, data: u8)
+        ensures { λ _. ⌜ now (self .exit) ≡ indexWritten (now (self .entry)) «data» ⌝ }
     {
-        let mut next = self;
-        next.index = data % 64;
-        next.auto = wrap::bit(data, 7);
-        next
+        self.index = data % 64;
+        self.auto = counts_on(data);
     }
 
-    pub fn write_color_data(self, data: u8) -> Self
-        requires { ⌜ self .index < 64 ⌝ }
-        ensures { λ r. ⌜ r ≡ dataWritten self «data» ⌝ }
+    pub fn write_color_data(&mut self, data: u8)
+        requires { ⌜ now self .index < 64 ⌝ }
+        ensures { λ _. ⌜ now (self .exit) ≡ dataWritten (now (self .entry)) «data» ⌝ }
     {
-        let mut next = self;
-        let at = self.index as usize;
-        next.bytes[at] = data;
-        if self.auto {
-            next.index = (self.index + 1) % 64;
+        self.index = store(&mut self.bytes, self.index, self.auto, data);
+    }
+
+    // The set after a write to its data port, or else to its index port: for those who hold it by value.
+    pub fn after_write(self, data_port: bool, value: u8) -> Self
+        requires { ⌜ («data_port» ≡ true → self .index < 64) ⌝ }
+        ensures { λ r. ⌜ r ≡ afterWrite self «data_port» value ⌝ }
+    {
+        let mut set = self;
+        if data_port {
+            set.write_color_data(value);
+        } else {
+            set.write_index(value);
         }
-        next
+        set
     }
 
     pub fn read_color_data(self) -> u8
@@ -164,6 +172,23 @@ impl PaletteSet {
             auto: self.auto,
         }
     }
+}
+
+// Whether data writes count on after an index write.
+fn counts_on(data: u8) -> bool
+    ensures { λ r. ⌜ r ≡ bitAt «data» 7 ⌝ }
+{
+    wrap::bit(data, 7)
+}
+
+// Stores a byte at the index, and says the index after it.
+fn store(bytes: &mut [u8; 64], index: u8, auto: bool, data: u8) -> u8
+    requires { ⌜ index < 64 ⌝ }
+    ensures { λ r. ⌜ (r ≡ next auto index) × (now (bytes .exit) ≡ set (now (bytes .entry)) index «data») ⌝ }
+{
+    let at = index as usize;
+    bytes[at] = data;
+    if auto { (index + 1) % 64 } else { index }
 }
 
 // The word at byte i, low byte first.

@@ -1,11 +1,11 @@
 -- 01's examples P1 to P11: what each says of the definitions that the functions are proved to compute.
-use Prim.Native.Nat.{ℕ}
+use Prim.Native.Nat.{ℕ, _<_}
 use mathlib.Core.Path.{_≡_}
 use mathlib.Core.Bool.{true, false}
-use mathlib.Core.List.{[], _∷_}
+use mathlib.Core.List.{List, [], _∷_}
 use lib.ListN.{replicate}
 use Rattle.sprite.specs.Oam.{inRange, movedLeft}
-use Rattle.sprite.specs.Pick.{lowestTen}
+use Rattle.sprite.specs.Pick.{touches, lowestTen}
 use Rattle.colors.specs.Shade.{shade}
 use Rattle.colors.specs.Palettes.{freshSet, indexWritten, dataWritten}
 use Rattle.colors.specs.declared.Color.{Color}
@@ -32,8 +32,10 @@ says P4 = (inRange 16 0 8 ≡ true) × (inRange 16 7 8 ≡ true) × (inRange 16 
 -- y 8, line 0: out at height 8, in at 16; y 0 out at both
 says P5 =
     (inRange 8 0 8 ≡ false) × (inRange 8 0 16 ≡ true) × (inRange 0 0 8 ≡ false) × (inRange 0 0 16 ≡ false)
--- all forty in: 0 to 9 taken
-says P6 = lowestTen (replicate 160 16) 0 8 ≡ 0 ∷ 1 ∷ 2 ∷ 3 ∷ 4 ∷ 5 ∷ 6 ∷ 7 ∷ 8 ∷ 9 ∷ []
+-- all forty in, of any OAM, line and height: 0 to 9 taken
+says P6 =
+    (oam : List ℕ) (line tall : ℕ) → ((i : ℕ) → i < 40 → touches oam line tall i ≡ true)
+    → lowestTen oam line tall ≡ 0 ∷ 1 ∷ 2 ∷ 3 ∷ 4 ∷ 5 ∷ 6 ∷ 7 ∷ 8 ∷ 9 ∷ []
 -- sprite x 3, colours c0..c7: c5 c6 c7 0 0 0 0 0; x 0: eight 0s
 says P7 =
     (c0 c1 c2 c3 c4 c5 c6 c7 : ℕ) →

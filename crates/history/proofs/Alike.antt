@@ -1,9 +1,9 @@
--- Statement 6 of specs/Demand: runs from worlds that differ only in what the pictures hold store the same.
+-- Statement 10 of specs/Demand: runs from worlds that differ only in what the pictures hold store the same.
 use mathlib.Core.Path.{_≡_, refl, sym, _∙_}
 use mathlib.Core.List.{List, [], _∷_}
 use Rattle.history.specs.Run as run
 use Rattle.history.specs.Run.{World, Call, step, write, read, colour, bugWrite, bugRead, bugReadWrite, shown, pick, number}
-use Rattle.history.specs.Run.{Deed, steps, writes, colours, stores, nothing, does, deedOf, perform}
+use Rattle.history.specs.Run.{Deed, steps, writes, colours, stores, nothing, does, Turn, ours, astray, deedOf, perform}
 use Rattle.history.specs.Stored.{Trace, go, trace}
 use Rattle.history.specs.Demand.{Alike, AlikeRuns, Independent}
 use Rattle.history.proofs.Kept.{does-lengths}
@@ -19,12 +19,13 @@ module _ {w v : World} (h : Alike w v) where
   same-number bugWrite = rw (h .state, h .tables) refl
   same-number bugRead = rw (h .state, h .tables) refl
   same-number bugReadWrite = rw (h .state, h .tables) refl
-  same-number shown = refl
+  same-number shown = rw (h .state, h .pictures .a, h .pictures .b) refl
   same-number (pick line tall) = rw (h .tables) refl
 
   -- a deed is found by number, state and tables alone
-  same-deed : (c : Call) → deedOf c w ≡ deedOf c v
-  same-deed c = rw (same-number c, h .state, h .tables) refl
+  same-deed : (c : Turn) → deedOf c w ≡ deedOf c v
+  same-deed (ours c) = rw (same-number c, h .state, h .tables) refl
+  same-deed (astray c lent e) = refl
 
   like : (d : Deed) → does d w .state ≡ does d v .state → does d w .tables ≡ does d v .tables → Alike (does d w) (does d v)
   like d s t =
@@ -43,21 +44,21 @@ module _ {w v : World} (h : Alike w v) where
   does-alike (stores t) = like (stores t) (h .state) refl
   does-alike nothing = h
 
-  perform-alike : (c : Call) → Alike (perform c w) (perform c v)
+  perform-alike : (c : Turn) → Alike (perform c w) (perform c v)
   perform-alike c = rw (same-deed c) (does-alike (deedOf c v))
 
-go-alike : (c : Call) {t u : Trace} → AlikeRuns t u → AlikeRuns (go c t) (go c u)
+go-alike : (c : Turn) {t u : Trace} → AlikeRuns t u → AlikeRuns (go c t) (go c u)
 go-alike c {t} {u} h =
     record {
       world = perform-alike (h .world) c;
       since = rw (same-deed (h .world) c, h .world .state, h .world .tables, h .since) refl;
     }
 
-trace-alike : (calls : List Call) {t u : Trace} → AlikeRuns t u → AlikeRuns (trace calls t) (trace calls u)
+trace-alike : (turns : List Turn) {t u : Trace} → AlikeRuns t u → AlikeRuns (trace turns t) (trace turns u)
 unfolding trace
 trace-alike [] h = h
 trace-alike (c ∷ rest) h = trace-alike rest (go-alike c h)
 
--- 6
+-- 10
 pub independent : Independent
-independent calls w v h = trace-alike calls (record { world = h; since = refl })
+independent turns w v h = trace-alike turns (record { world = h; since = refl })

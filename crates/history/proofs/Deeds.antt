@@ -14,14 +14,15 @@ use Rattle.sprite.specs.Pick.{pickable, pickNumber}
 use Rattle.state.specs.declared.State.{State}
 use Rattle.order.specs.Fine.{Fine}
 use Rattle.order.proofs.Clauses.{ordered}
+use Rattle.registers.specs.Registers.{listed}
 use Rattle.registers.specs.Write.{readable}
 use Rattle.oam_bug.proofs.Rows.{length-write, length-read, length-read-write}
-use Rattle.ppu.specs.Numbers.{paced, listed, inOam, timely}
-use Rattle.ppu.specs.Calls.{bugRow}
-use Rattle.ppu.proofs.Pace.{Pace, pace}
+use Rattle.terms.specs.Numbers.{paced, inOam, timely}
+use Rattle.ports.specs.Calls.{bugRow}
+use Rattle.terms.proofs.Pace.{Pace, pace}
 use Rattle.history.specs.Run as run
 use Rattle.history.specs.Run.{World, Call, step, write, read, colour, bugWrite, bugRead, bugReadWrite, shown, pick, number}
-use Rattle.history.specs.Run.{Deed, steps, writes, colours, stores, nothing, deed, deedOf, swapsBy, swapped}
+use Rattle.history.specs.Run.{Deed, steps, writes, colours, stores, nothing, deed, Turn, ours, astray, deedOf, swapsBy, swapped, stepping}
 
 -- a step is paced, and tables put in place have their sizes
 abbrev pub Lawful : Deed → State → Type 0
@@ -80,17 +81,18 @@ module _ (w : World) (h : TablesSized (w .tables)) (f : Fine (w .state)) where
         accepted = λ e. on-oam _ (length-read-write (w .tables .oam) (bugRow (w .state)));
         never2 = lowest-not-2 _ _ (ordered f) (other (timely (w .state)) (omega arith));
       }
-  known shown = record { accepted = λ e. tt; never2 = λ e. omega arith }
+  known shown = record { accepted = λ e. tt; never2 = lowest-not-2 _ _ (ordered f) (λ e. omega arith) }
   known (pick line tall) = record { accepted = λ e. tt; never2 = lowest-not-2 _ _ refl (other (pickable line tall) (omega arith)) }
 
-  pub lawful : (c : Call) → Lawful (deedOf c w) (w .state)
-  lawful c = by-test (λ (d : Deed). Lawful d (w .state)) (done (number c w)) (λ e. known c .accepted (eqb-true _ _ e)) (λ e. tt)
+  pub lawful : (c : Turn) → Lawful (deedOf c w) (w .state)
+  lawful (ours c) = by-test (λ (d : Deed). Lawful d (w .state)) (done (number c w)) (λ e. known c .accepted (eqb-true _ _ e)) (λ e. tt)
+  lawful (astray c lent e) = tt
 
   pub not-2 : (c : Call) → number c w ≡ 2 → ⊥
   not-2 c = known c .never2
 
--- a call that swaps was accepted
-pub swap-accepted : (c : Call) (w : World) → swapped c w ≡ true → number c w ≡ 0
-swap-accepted c w =
-    by-test (λ (d : Deed). swapsBy d (w .state) ≡ true → number c w ≡ 0) (done (number c w)) (λ e s. eqb-true _ _ e)
+-- a step that swaps was accepted
+pub swap-accepted : (n : ℕ) (w : World) → swapped (stepping n) w ≡ true → number (step n) w ≡ 0
+swap-accepted n w =
+    by-test (λ (d : Deed). swapsBy d (w .state) ≡ true → number (step n) w ≡ 0) (done (number (step n) w)) (λ e s. eqb-true _ _ e)
     (λ e s. absurd (clash s refl))

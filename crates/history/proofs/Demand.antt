@@ -1,50 +1,47 @@
--- The statements of specs/Demand, proved: never 2, the count, the line's end, the mark.
-use mathlib.Core.Path.{_≡_, refl, sym, _∙_}
-use mathlib.Core.Bool.{Bool, true, false, true≢false, not, cond, or-true}
-use mathlib.Core.List.{List, [], _∷_, _++_, append-nil}
-use Prim.Native.Nat.{ℕ, _<_}
+-- The statements 1, 3, 4, 5 and 7 of specs/Demand, proved: never 2, the count, the line's end, line 0, the mark.
+use mathlib.Core.Path.{_≡_, refl, sym, ap, _∙_}
+use mathlib.Core.Bool.{Bool, true, false, cond}
+use mathlib.Core.Logic.{_↔_}
+use mathlib.Core.List.{List, [], _∷_, _++_, append-nil, List·Memᴰ}
+use Prim.Native.Nat.{ℕ, _≤_, _<_}
 use native.Mathlib.Omega.{arith}
 use borrow.Author.Tests.{eqb-true, eq-eqb}
 use lib.Dec.{eqb}
 use lib.ListN.{length, length-map}
-use Rattle.logic.proofs.Both.{first, second, split}
+use Rattle.logic.proofs.Tests.{clash}
+use Rattle.logic.proofs.Both.{split}
 use Rattle.hardware.specs.Screen.{places}
-use Rattle.hardware.specs.declared.Machine.{Machine}
 use Rattle.state.specs.With.{modeOf}
 use Rattle.state.specs.declared.State.{State}
 use Rattle.order.specs.Fine.{Fine}
 use Rattle.beam.specs.Advance.{swaps, whole, advanced}
 use Rattle.step.specs.Step.{lit, working, settled, report, reportOf, offReport, shotsOf}
-use Rattle.ppu.proofs.Pace.{Pace}
+use Rattle.step.specs.declared.Report.{Report}
+use Rattle.ppu.specs.declared.StepAnswer.{StepAnswer}
+use Rattle.terms.proofs.Pace.{Pace}
 use Rattle.bound.proofs.Potential.{left-positive}
-use Rattle.history.specs.Run.{World, Call, step, number, freshWorld, swapped, blanked}
-use Rattle.history.specs.Stored.{Stored, storedBy, Trace, through, trace, begun, numbers}
-use Rattle.history.specs.Demand.{ran, EveryRun, answer, AtOrigin, staysOn, Never2, Counts, Counted, InTime, EndsInTime, Mark, Marked}
-use Rattle.history.proofs.Rising.{Rising, rising-most, rising-mark}
+use Rattle.history.specs.Run.{World, Call, step, number, Turn, stepping, swapped}
+use Rattle.history.specs.Public.{answer}
+use Rattle.history.specs.Stored.{Stored, storedBy, Trace, through, trace, numbers}
+use Rattle.history.specs.Demand.{EveryStep, AtOrigin, staysOn, Never2, Counts, Counted, InTime, EndsInTime, EmptyAtOrigin, Mark, Marked}
+use Rattle.history.proofs.Rising.{Rising, rising-zero, rising-most, rising-mark}
 use Rattle.history.proofs.Places.{stored-none}
 use Rattle.history.proofs.Deeds.{not-2, step-paced, swap-accepted}
-use Rattle.history.proofs.Phase.{Phase, PhaseOf, phase-rising}
+use Rattle.history.proofs.Phase.{Base, Phase, PhaseOf, phase-rising}
 use Rattle.history.proofs.Steps.{settled-swaps}
-use Rattle.history.proofs.Invariant.{Inv, fullAt, fullAfter, begun-inv, go-inv, trace-inv, lit-count, lit-rising}
-
--- what holds of a run from a start
-pub ran-inv : (machine : Machine) (calls : List Call) → Inv (fullAt calls (begun (freshWorld machine)) false) (ran machine calls)
-ran-inv machine calls = trace-inv calls (begun-inv machine)
-
--- and what follows from it
-pub of-runs : (P : Trace → Type 0) → ((full : Bool) (t : Trace) → Inv full t → P t) → EveryRun P
-of-runs P f machine before = f _ _ (ran-inv machine before)
+use Rattle.history.proofs.Invariant.{Inv, of-runs, origin-full, on-full, lit-count, lit-rising}
+use Rattle.history.proofs.Answered.{told-report, told-swap}
 
 -- 1
-in-order : {full : Bool} {t : Trace} → Inv full t → (c : Call) → number c (t .world) ≡ 2 → ⊥
+in-order : {base : Base} {t : Trace} → Inv base t → (c : Call) → number c (t .world) ≡ 2 → ⊥
 in-order {t = t} i c = not-2 (t .world) (i .sizes .tables) (i .fine) c
 
 pub never-2 : Never2
-never-2 = of-runs _ (λ full t. in-order)
+never-2 = of-runs _ (λ base t. in-order)
 
--- 2
-module _ {full : Bool} {t : Trace} (i : Inv full t) where
-  pub answer-count : (n : ℕ) → number (step n) (t .world) ≡ 0 → answer n (t .world) .count ≡ length (through (step n) t)
+-- 3
+module _ {base : Base} {t : Trace} (i : Inv base t) where
+  pub answer-count : (n : ℕ) → number (step n) (t .world) ≡ 0 → answer n (t .world) .count ≡ length (through (stepping n) t)
   unfolding report shotsOf
   answer-count n e = rw e (by (lit (t .world .state)))
     where
@@ -62,48 +59,52 @@ module _ {full : Bool} {t : Trace} (i : Inv full t) where
       by true = lit-count n (w .tables) (i .fine) (i .stands) (step-paced n w e)
       by false = rw (stored-none, append-nil (t .since)) (i .stands .count)
 
+  most-places : length (t .since) ≤ places
+  most-places =
+      let k = rising-most (rising-zero (phase-rising (i .fine .beam .x) (i .stands .phase))) in
+      omega (arith, length-map (t .since) (λ (z : Stored). z .place))
+
   counts : Counts t
   counts =
       record {
-        most = let k = rising-most (phase-rising (i .fine .beam .x) (i .stands .phase)) in omega (arith, length-map (t .since) (λ (z : Stored). z .place));
+        most = most-places;
         state = i .stands .count;
-        answers = answer-count;
+        answers = λ n r left d z.
+            ap (λ (q : Report). q .count) (told-report d z) ∙ answer-count n (sym (d .performs .number) ∙ z);
       }
 
 pub counted : Counted
-counted = of-runs Counts (λ full t. counts)
+counted = of-runs Counts (λ base t. counts)
 
--- 3: while the display stays on behind line 0, cycle 0, the run stays full
-full-on : (c : Call) (u : World) → not (blanked c u) ≡ true → fullAfter c u true ≡ true
-full-on c u e = rw e (or-true (swapped c u))
+-- 4
+in-time : {base : Base} {s : State} {l : List ℕ} → base .swap ≡ true → Fine s → PhaseOf base s l → modeOf (s .regs .stat) ≡ 3
+    → (80 < s .beam .cycle) × (s .beam .cycle < 284)
+in-time on f (Phase.before m low line e up) z = absurd (m z)
+in-time {s = s} on f (Phase.tight m low line t h up) z = let p = left-positive s (f .beam .x) in (low, omega arith)
+in-time on f (Phase.loose o m low line q h up) z = absurd (clash on o)
+in-time on f (Phase.carried o line cycle q up) z = absurd (clash on o)
+in-time on f (Phase.ended m low line x up) z = absurd (m z)
+in-time on f (Phase.rest m line x up) z = absurd (m z)
 
-pub on-inv : (calls : List Call) {t : Trace} → Inv true t → staysOn calls t ≡ true → Inv true (trace calls t)
-unfolding trace staysOn
-on-inv [] i e = i
-on-inv (c ∷ rest) {t} i e =
-    on-inv rest (rw (full-on c (t .world) (first (not (blanked c (t .world))) _ e)) at (go-inv c i)) (second (not (blanked c (t .world))) _ e)
-
-pub origin-inv : {full : Bool} {t : Trace} → Inv full t → AtOrigin (t .world) → Inv true t
-origin-inv i o = rw (i .stands .origin (o .line) (o .cycle) .0) at i
-
-in-time : {s : State} {l : List ℕ} → Fine s → PhaseOf true s l → modeOf (s .regs .stat) ≡ 3 → (80 < s .beam .cycle) × (s .beam .cycle < 284)
-in-time f (Phase.before m low line e up) z = absurd (m z)
-in-time {s} f (Phase.tight m low line t h up) z = let p = left-positive s (f .beam .x) in (low, omega arith)
-in-time f (Phase.loose o m low line q h up) z = absurd (true≢false o)
-in-time f (Phase.carried o line cycle q up) z = absurd (true≢false o)
-in-time f (Phase.ended m low line x up) z = absurd (m z)
-in-time f (Phase.rest m line x up) z = absurd (m z)
-
-on-in-time : {full : Bool} {t : Trace} → Inv full t → (after : List Call) → AtOrigin (t .world) → staysOn after t ≡ true → InTime (trace after t .world)
-on-in-time i after o on = let k = on-inv after (origin-inv i o) on in in-time (k .fine) (k .stands .phase)
+on-in-time : {base : Base} {t : Trace} → Inv base t → (after : List Turn) → AtOrigin (t .world) → staysOn after t ≡ true → InTime (trace after t .world)
+on-in-time i after o on =
+    let k = on-full after (origin-full i o) on in
+    in-time (k .full) (k .inv .fine) (k .inv .stands .phase)
 
 pub ends-in-time : EndsInTime
-ends-in-time = of-runs _ (λ full t. on-in-time)
+ends-in-time = of-runs _ (λ base t. on-in-time)
 
--- 5: the mark of a step that swaps
-module _ {full : Bool} {t : Trace} (i : Inv full t) (n : ℕ) (e : swapped (step n) (t .world) ≡ true) where
+-- 5
+origin-empty : {base : Base} {t : Trace} → Inv base t → AtOrigin (t .world) → t .since ≡ []
+origin-empty i o = i .stands .origin (o .line) (o .cycle) .1
+
+pub empty-at-origin : EmptyAtOrigin
+empty-at-origin = of-runs _ (λ base t. origin-empty)
+
+-- 7: the mark of a step that swaps
+module _ {base : Base} {t : Trace} (i : Inv base t) (n : ℕ) (e : swapped (stepping n) (t .world) ≡ true) where
   pub accepted-now : number (step n) (t .world) ≡ 0
-  accepted-now = swap-accepted (step n) (t .world) e
+  accepted-now = swap-accepted n (t .world) e
 
   swap : (lit (t .world .state) ≡ true) × (swaps n (t .world .state .beam) ≡ true)
   swap = split (lit (t .world .state)) _ (rw accepted-now at e)
@@ -116,7 +117,7 @@ module _ {full : Bool} {t : Trace} (i : Inv full t) (n : ℕ) (e : swapped (step
   mark-count =
       rw (swap .0) (rw (settled-swaps n (t .world .tables) (t .world .state) ∙ swaps-now) refl)
 
-  pub through-now : through (step n) t
+  pub through-now : through (stepping n) t
       ≡ t .since ++ storedBy (working n (t .world .tables) (t .world .state) .shots)
   unfolding shotsOf
   through-now = rw (accepted-now, swap .0) refl
@@ -124,17 +125,24 @@ module _ {full : Bool} {t : Trace} (i : Inv full t) (n : ℕ) (e : swapped (step
   pub pace-now : Pace (t .world .state .beam .cycle) n
   pace-now = step-paced n (t .world) accepted-now
 
-  now-rising : Rising 0 places (numbers (through (step n) t))
+  pub now-rising : Rising (base .low) places (numbers (through (stepping n) t))
   now-rising = rw through-now (lit-rising n (t .world .tables) (i .fine) (i .stands) pace-now)
 
-  count-places : answer n (t .world) .count ≡ length (numbers (through (step n) t))
-  count-places = answer-count i n accepted-now ∙ sym (length-map (through (step n) t) (λ (z : Stored). z .place))
+  count-places : answer n (t .world) .count ≡ length (numbers (through (stepping n) t))
+  count-places = answer-count i n accepted-now ∙ sym (length-map (through (stepping n) t) (λ (z : Stored). z .place))
 
-  mark : Mark n t
-  mark = (
-    λ m. rising-mark now-rising .0 (sym count-places ∙ eqb-true (answer n (t .world) .count) places (sym mark-count ∙ m)),
-    λ a. mark-count ∙ eq-eqb (answer n (t .world) .count) places (count-places ∙ rising-mark now-rising .1 a),
-  )
+  mark : (answer n (t .world) .whole ≡ true) ↔ ((k : ℕ) → k < places → List·Memᴰ k (numbers (through (stepping n) t)))
+  mark =
+      let all = rising-mark (rising-zero now-rising) in (
+        λ m. all .0 (sym count-places ∙ eqb-true (answer n (t .world) .count) places (sym mark-count ∙ m)),
+        λ a. mark-count ∙ eq-eqb (answer n (t .world) .count) places (count-places ∙ all .1 a),
+      )
+
+-- in the caller's hand
+pub hand-mark : {base : Base} {t : Trace} → Inv base t → EveryStep (λ (n : ℕ) (u : Trace) (r : StepAnswer). r .report .swapped ≡ true → Mark n u r) t
+hand-mark {t = t} i n r left d z =
+    let e = sym (told-swap d) ∙ z in
+    rw (told-report d (d .performs .number ∙ accepted-now i n e)) (mark i n e)
 
 pub marked : Marked
-marked = of-runs _ (λ full t. mark)
+marked = of-runs _ (λ base t. hand-mark)

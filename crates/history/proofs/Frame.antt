@@ -1,4 +1,4 @@
--- Statement 4 of specs/Demand: from line 0, cycle 0 to the swap each place is stored once, and the picture holds the bytes.
+-- Statement 6 of specs/Demand: from line 0, cycle 0 to the swap each place is stored once, and the picture holds the bytes.
 use mathlib.Core.Path.{_≡_, refl, sym, ap, ap₂, _∙_}
 use mathlib.Core.Bool.{Bool, true, false, not, cond, _&&_}
 use mathlib.Core.List.{List, [], _∷_}
@@ -20,34 +20,37 @@ use Rattle.beam.proofs.Ways.{advanced-cases}
 use Rattle.registers.specs.Write.{kept, blanks, stateWritten}
 use Rattle.step.specs.Step.{lit, settled, stepped, shotsOf}
 use Rattle.step.proofs.Keeps.{settled-same}
-use Rattle.history.specs.Run.{World, Call, step, Deed, steps, writes, colours, stores, nothing, does, shotsBy, swapsBy, blanksBy}
+use Rattle.history.specs.Run.{World, Turn, stepping, Deed, steps, writes, colours, stores, nothing, does, shotsBy, swapsBy, blanksBy}
 use Rattle.history.specs.Run.{deedOf, perform, shotsFrom, swapped, blanked}
 use Rattle.history.specs.Stored.{Stored, storedBy, Trace, through, go, trace, numbers, from}
-use Rattle.history.specs.Demand.{repainted, AtOrigin, staysOn, staysHidden, shownPicture, Once, EachOnce}
-use Rattle.history.proofs.Rising.{rising-whole}
+use Rattle.history.specs.Public.{shownPicture}
+use Rattle.history.specs.Demand.{repainted, AtOrigin, staysOn, staysHidden, Once, EachOnce}
+use Rattle.history.proofs.Rising.{rising-zero, rising-whole}
 use Rattle.history.proofs.Places.{stored-none}
 use Rattle.history.proofs.Picture.{put, all-stored, put-append, put-whole}
-use Rattle.history.proofs.Phase.{Mid}
+use Rattle.history.proofs.Phase.{Base, Mid}
 use Rattle.history.proofs.Steps.{settled-swaps}
-use Rattle.history.proofs.Invariant.{Inv, lit-mid}
-use Rattle.history.proofs.Demand.{of-runs, on-inv, origin-inv, accepted-now, swaps-now, through-now, pace-now}
+use Rattle.history.proofs.Invariant.{Inv, Full, of-runs, origin-full, on-full, lit-mid}
+use Rattle.history.proofs.Demand.{accepted-now, swaps-now, through-now, pace-now}
 
 -- at a swap the beam is below the picture, and a full run has stored every place
-whole-mid : {n mode line cycle x : ℕ} {p : Pipe} {l : List ℕ} → Mid true n mode line cycle x p l → line + 1 ≡ frameLines → l ≡ from 0 places
-whole-mid (Mid.before m low line e up) at = absurd (omega arith)
-whole-mid (Mid.tight m low line t h up) at = absurd (omega arith)
-whole-mid (Mid.loose z m low line q h up) at = absurd (omega arith)
-whole-mid (Mid.ended m low line x up) at = absurd (omega arith)
-whole-mid (Mid.rest m line x up) at = rising-whole (up .rises) (up .fills refl)
+whole-mid : {base : Base} {n mode line cycle x : ℕ} {p : Pipe} {l : List ℕ} → base .swap ≡ true → Mid base n mode line cycle x p l
+    → line + 1 ≡ frameLines → l ≡ from 0 places
+whole-mid on (Mid.before m low line e up) at = absurd (omega arith)
+whole-mid on (Mid.tight m low line t h up) at = absurd (omega arith)
+whole-mid on (Mid.loose z m low line q h up) at = absurd (omega arith)
+whole-mid on (Mid.ended m low line x up) at = absurd (omega arith)
+whole-mid on (Mid.rest m line x up) at = rising-whole (rising-zero (up .rises)) (up .fills on)
 
-pub once-all : {t : Trace} (n : ℕ) → Inv true t → swapped (step n) (t .world) ≡ true → numbers (through (step n) t) ≡ from 0 places
-once-all {t} n i e =
+pub once-all : {t : Trace} (n : ℕ) → Full t → swapped (stepping n) (t .world) ≡ true → numbers (through (stepping n) t) ≡ from 0 places
+once-all {t} n k e =
     let w = t .world in
+    let i = k .inv in
     let line : w .state .beam .line + 1 ≡ frameLines
     = eqb-true (w .state .beam .line + 1) frameLines (second (ends n (w .state .beam)) _ (swaps-now i n e)) in
     let same = settled-same n (w .tables) (w .state) in
     rw (through-now i n e)
-    (whole-mid (lit-mid n (w .tables) (i .fine) (i .stands) (pace-now i n e)) (omega (arith, same .line)))
+    (whole-mid (k .full) (lit-mid n (w .tables) (i .fine) (i .stands) (pace-now i n e)) (omega (arith, same .line)))
 
 -- the picture that is drawn
 abbrev hidden : World → List ℕ
@@ -105,12 +108,12 @@ does-hidden (stores t) w e f = sym (put-none (hidden w))
 does-hidden nothing w e f = sym (put-none (hidden w))
 
 -- the places since are kept by a call that neither swaps nor blanks
-go-since : (c : Call) (t : Trace) → swapped c (t .world) ≡ false → blanked c (t .world) ≡ false → go c t .since ≡ through c t
+go-since : (c : Turn) (t : Trace) → swapped c (t .world) ≡ false → blanked c (t .world) ≡ false → go c t .since ≡ through c t
 go-since c t e f = rw (e, f) refl
 
 -- the picture that is drawn is the one at line 0, cycle 0 with the places since stored in it
-pub drawing : (calls : List Call) (t : Trace) (p : List ℕ) → hidden (t .world) ≡ put p (t .since) → staysOn calls t ≡ true → staysHidden calls t ≡ true
-    → hidden (trace calls t .world) ≡ put p (trace calls t .since)
+pub drawing : (turns : List Turn) (t : Trace) (p : List ℕ) → hidden (t .world) ≡ put p (t .since) → staysOn turns t ≡ true → staysHidden turns t ≡ true
+    → hidden (trace turns t .world) ≡ put p (trace turns t .since)
 unfolding trace staysOn staysHidden
 drawing [] t p h on e = h
 drawing (c ∷ rest) t p h on e =
@@ -124,8 +127,8 @@ drawing (c ∷ rest) t p h on e =
     (second (not (blanked c w)) _ on) (second (not (swapped c w)) _ e)
 
 -- the swap shows it
-swap-shows : {full : Bool} {t : Trace} (n : ℕ) → Inv full t → swapped (step n) (t .world) ≡ true
-    → shownPicture (perform (step n) (t .world)) ≡ put (hidden (t .world)) (storedBy (shotsFrom (step n) (t .world)))
+swap-shows : {base : Base} {t : Trace} (n : ℕ) → Inv base t → swapped (stepping n) (t .world) ≡ true
+    → shownPicture (perform (stepping n) (t .world)) ≡ put (hidden (t .world)) (storedBy (shotsFrom (stepping n) (t .world)))
 swap-shows {t = t} n i e =
     let w = t .world in
     let k = w .state .beam .shown in
@@ -142,28 +145,29 @@ unfolding put
 empty p z = rw z refl
 
 -- other pictures change nothing of the rest
-repaint-inv : {full : Bool} {t : Trace} {p : Pictures} → PicturesSized p → Inv full t → Inv full (repainted t p)
+repaint-inv : {base : Base} {t : Trace} {p : Pictures} → PicturesSized p → Inv base t → Inv base (repainted t p)
 repaint-inv h i = record { fine = i .fine; sizes = record { tables = i .sizes .tables; pictures = h }; stands = i .stands }
 
--- 4
-once : {full : Bool} {t : Trace} → Inv full t → AtOrigin (t .world) → Once t
+-- 6
+once : {base : Base} {t : Trace} → Inv base t → AtOrigin (t .world) → Once t
 once {t = t} start o after n on stays e =
     let p = hidden (t .world) in
-    let i = on-inv after (origin-inv start o) on in
-    let all = once-all n i e in
+    let k = on-full after (origin-full start o) on in
+    let i = k .inv in
+    let all = once-all n k e in
     let u = trace after t in
-    let new = storedBy (shotsFrom (step n) (u .world)) in
+    let new = storedBy (shotsFrom (stepping n) (u .world)) in
     record {
       once = all;
       shown =
           swap-shows n i e
           ∙ ap (λ (q : List ℕ). put q new) (drawing after t p (empty p (start .stands .origin (o .line) (o .cycle) .1)) on stays)
           ∙ sym (put-append p (u .since) new)
-          ∙ put-whole p (through (step n) u) (hidden-length (t .world .state .beam .shown) (start .sizes .pictures)) all;
+          ∙ put-whole p (through (stepping n) u) (hidden-length (t .world .state .beam .shown) (start .sizes .pictures)) all;
     }
 
-repainted-once : {full : Bool} {t : Trace} → Inv full t → (p : Pictures) → PicturesSized p → AtOrigin (t .world) → Once (repainted t p)
+repainted-once : {base : Base} {t : Trace} → Inv base t → (p : Pictures) → PicturesSized p → AtOrigin (t .world) → Once (repainted t p)
 repainted-once i p h o = once (repaint-inv h i) (record { line = o .line; cycle = o .cycle })
 
 pub each-once : EachOnce
-each-once = of-runs _ (λ full t. repainted-once)
+each-once = of-runs _ (λ base t. repainted-once)

@@ -1,10 +1,12 @@
 -- What holds after any calls from a start: order, sizes, the count, and where the beam stands.
-use mathlib.Core.Path.{_≡_, refl, sym, ap, _∙_}
+use mathlib.Core.Path.{_≡_, refl, sym, ap, subst, _∙_}
 use mathlib.Core.Bool.{Bool, true, false, true≢false, not, cond, _&&_, _||_, or-false}
 use mathlib.Core.List.{List, [], _∷_, _++_, append-nil, map-append}
 use Prim.Native.Nat.{ℕ, _+_, _≤_, _<_}
 use native.Mathlib.Omega.{arith}
 use lib.ListN.{length, length-append, length-map}
+use Rattle.logic.proofs.Tests.{isnt}
+use Rattle.logic.proofs.Both.{first, second}
 use Rattle.hardware.specs.Tables.{Tables}
 use Rattle.hardware.specs.Screen.{height, place, places, lineCycles}
 use Rattle.state.specs.With.{modeOf}
@@ -16,48 +18,49 @@ use Rattle.order.specs.Fine.{Fine}
 use Rattle.beam.specs.Advance.{swaps, advanced}
 use Rattle.step.specs.Step.{lit, working, settled, stepped, shotsOf}
 use Rattle.step.proofs.Keeps.{settled-fine, settled-same}
-use Rattle.history.specs.Run.{World, Call, Deed, steps, writes, colours, stores, nothing, does, shotsBy, swapsBy, blanksBy}
+use Rattle.history.specs.Run.{World, Turn, Deed, steps, writes, colours, stores, nothing, does, shotsBy, swapsBy, blanksBy}
 use Rattle.history.specs.Run.{deedOf, freshWorld, swapped, blanked}
 use Rattle.history.specs.Stored.{Stored, storedBy, Trace, go, trace, begun, numbers}
-use Rattle.history.proofs.Rising.{Rising, none, rising-most}
+use Rattle.history.specs.Demand.{AtOrigin, staysOn, staysHidden, ran, EveryRun}
+use Rattle.history.proofs.Rising.{Rising, none, rising-zero, rising-most}
 use Rattle.history.proofs.Places.{stored-none}
 use Rattle.history.proofs.Deeds.{Lawful, lawful}
 use Rattle.history.proofs.Kept.{WorldSized, fresh-sized, sized-kept}
 use Rattle.memory.proofs.Fine.{fresh-fine}
 use Rattle.registers.proofs.Fine.{mode-written, write-fine, colour-fine}
-use Rattle.history.proofs.Phase.{first′, Phase, PhaseOf, MidOf, mid-rising, phase-rising}
-use Rattle.ppu.proofs.Pace.{Pace}
+use Rattle.history.proofs.Phase.{Base, swapBase, blankBase, first′, Phase, PhaseOf, MidOf, mid-rising, phase-rising}
+use Rattle.terms.proofs.Pace.{Pace}
 use Rattle.history.proofs.Steps.{stepped-fine, mid-ends, advanced-count, advanced-origin, settled-count, settled-swaps, step-mid, step-phase}
 
--- of the state and the places stored since; full: a swap was the latest of start, swap and blanking
-pub record Stands (full : Bool) (s : State) (since : List Stored) : Type 0 where
+-- of the state and the places stored since
+pub record Stands (base : Base) (s : State) (since : List Stored) : Type 0 where
   pub count : s .beam .count ≡ length since
-  pub phase : PhaseOf full s (numbers since)
-  pub origin : s .beam .line ≡ 0 → s .beam .cycle ≡ 0 → (full ≡ true) × (since ≡ [])
+  pub phase : PhaseOf base s (numbers since)
+  pub origin : s .beam .line ≡ 0 → s .beam .cycle ≡ 0 → (base .swap ≡ true) × (since ≡ [])
 
 -- of a run
-pub record Inv (full : Bool) (t : Trace) : Type 0 where
+pub record Inv (base : Base) (t : Trace) : Type 0 where
   pub fine : Fine (t .world .state)
   pub sizes : WorldSized (t .world)
-  pub stands : Stands full (t .world .state) (t .since)
+  pub stands : Stands base (t .world .state) (t .since)
 
--- whether a swap is the latest after a call
-abbrev pub fullAfter : Call → World → Bool → Bool
-fullAfter c w full = swapped c w || (not (blanked c w) && full)
+-- what a run is counted from after a turn
+abbrev pub baseAfter : Turn → World → Base → Base
+baseAfter c w base = cond (swapped c w) swapBase (cond (blanked c w) (blankBase (w .state .beam .x)) base)
 
 -- a write: a blanking forgets
-write-stands : {full : Bool} {s : State} {l : List Stored} (address value : ℕ) → Stands full s l
-    → Stands (not (blanks (s .regs) address (kept address value)) && full) (stateWritten s address (kept address value))
+write-stands : {base : Base} {s : State} {l : List Stored} (address value : ℕ) → Stands base s l
+    → Stands (cond (blanks (s .regs) address (kept address value)) (blankBase (s .beam .x)) base) (stateWritten s address (kept address value))
     (cond (blanks (s .regs) address (kept address value)) [] l)
 unfolding stateWritten
-write-stands {full} {s} {l} address value i = by (blanks (s .regs) address (kept address value))
+write-stands {base} {s} {l} address value i = by (blanks (s .regs) address (kept address value))
   where
     u : State
     u = valueWritten s address (kept address value)
 
-    by : (b : Bool) → Stands (not b && full) (cond b (blankedState u) u) (cond b [] l)
+    by : (b : Bool) → Stands (cond b (blankBase (s .beam .x)) base) (cond b (blankedState u) u) (cond b [] l)
     by true =
-        let z : 0 ≤ place (s .beam .x) 0 = omega arith in
+        let z : s .beam .x ≤ place (s .beam .x) 0 = omega arith in
         record {
           count = refl;
           phase =
@@ -68,7 +71,7 @@ write-stands {full} {s} {l} address value i = by (blanks (s .regs) address (kept
     by false = record { count = i .count; phase = rw (mode-written (s .regs) address value) (i .phase); origin = i .origin }
 
 -- the fresh state
-fresh-stands : (machine : Machine) → Stands false (freshState machine) []
+fresh-stands : (machine : Machine) → Stands (blankBase 0) (freshState machine) []
 unfolding freshState
 fresh-stands machine =
     let z : 0 ≤ places = omega arith in
@@ -78,33 +81,33 @@ fresh-stands machine =
       origin = λ line. absurd (omega arith);
     }
 
-module _ {full : Bool} (n : ℕ) (lent : Tables) {s : State} {l : List Stored} (f : Fine s) (i : Stands full s l) where
+module _ {base : Base} (n : ℕ) (lent : Tables) {s : State} {l : List Stored} (f : Fine s) (i : Stands base s l) where
   low : s .beam .count < 65536
-  low = let k = rising-most (phase-rising (f .beam .x) (i .phase)) in omega (arith, i .count, length-map l (λ (t : Stored). t .place))
+  low = let k = rising-most (rising-zero (phase-rising (f .beam .x) (i .phase))) in omega (arith, i .count, length-map l (λ (t : Stored). t .place))
 
   -- a step, before the cycle advances: the places, their number, and the phase
   module _ (pace : Pace (s .beam .cycle) n) where
-    pub lit-mid : MidOf full n (settled n lent s) (numbers (l ++ storedBy (working n lent s .shots)))
+    pub lit-mid : MidOf base n (settled n lent s) (numbers (l ++ storedBy (working n lent s .shots)))
     lit-mid = rw (map-append (λ (t : Stored). t .place) l (storedBy (working n lent s .shots))) (step-mid n lent s f low pace (i .phase))
 
-    pub lit-rising : Rising 0 places (numbers (l ++ storedBy (working n lent s .shots)))
+    pub lit-rising : Rising (base .low) places (numbers (l ++ storedBy (working n lent s .shots)))
     lit-rising = mid-rising (settled-fine n lent s f .beam .x) lit-mid
 
     pub lit-count : settled n lent s .beam .count ≡ length (l ++ storedBy (working n lent s .shots))
     lit-count =
-        let k = rising-most lit-rising in
+        let k = rising-most (rising-zero lit-rising) in
         let e = settled-count n lent s f low in
         omega (arith, i .count, length-append l (storedBy (working n lent s .shots)), length-map (l ++ storedBy (working n lent s .shots)) (λ (t : Stored). t .place))
 
     -- a lit step
-    lit-stands : Stands (swaps n (s .beam) || full) (advanced n (settled n lent s)) (cond (swaps n (s .beam)) [] (l ++ storedBy (working n lent s .shots)))
+    lit-stands : Stands (cond (swaps n (s .beam)) swapBase base) (advanced n (settled n lent s)) (cond (swaps n (s .beam)) [] (l ++ storedBy (working n lent s .shots)))
     lit-stands =
         record {
           count = counted (swaps n (s .beam)) refl;
           phase = phased (swaps n (s .beam)) (rw (map-append (λ (t : Stored). t .place) l (storedBy (working n lent s .shots))) (step-phase n lent s f low pace (i .phase)));
           origin = λ line cycle.
               let e = sym (settled-swaps n lent s) ∙ advanced-origin n (settled n lent s) (pace .some) line cycle in
-              (ap (λ (b : Bool). b || full) e, ap (λ (b : Bool). cond b [] (l ++ storedBy (working n lent s .shots))) e);
+              (ap (λ (b : Bool). cond b swapBase base .swap) e, ap (λ (b : Bool). cond b [] (l ++ storedBy (working n lent s .shots))) e);
         }
       where
         counted : (b : Bool) → swaps n (s .beam) ≡ b
@@ -112,17 +115,17 @@ module _ {full : Bool} (n : ℕ) (lent : Tables) {s : State} {l : List Stored} (
         counted true e = advanced-count n (settled n lent s) ∙ ap (λ (b : Bool). cond b 0 (settled n lent s .beam .count)) (settled-swaps n lent s ∙ e)
         counted false e = advanced-count n (settled n lent s) ∙ ap (λ (b : Bool). cond b 0 (settled n lent s .beam .count)) (settled-swaps n lent s ∙ e) ∙ lit-count
 
-        phased : (b : Bool) → PhaseOf (b || full) (advanced n (settled n lent s)) (cond b [] (numbers (l ++ storedBy (working n lent s .shots))))
-            → PhaseOf (b || full) (advanced n (settled n lent s)) (numbers (cond b [] (l ++ storedBy (working n lent s .shots))))
+        phased : (b : Bool) → PhaseOf (cond b swapBase base) (advanced n (settled n lent s)) (cond b [] (numbers (l ++ storedBy (working n lent s .shots))))
+            → PhaseOf (cond b swapBase base) (advanced n (settled n lent s)) (numbers (cond b [] (l ++ storedBy (working n lent s .shots))))
         phased true p = p
         phased false p = p
 
     -- any step
-    step-stands : Stands ((lit s && swaps n (s .beam)) || full) (stepped n lent s) (cond (lit s && swaps n (s .beam)) [] (l ++ storedBy (shotsOf n lent s)))
+    step-stands : Stands (cond (lit s && swaps n (s .beam)) swapBase base) (stepped n lent s) (cond (lit s && swaps n (s .beam)) [] (l ++ storedBy (shotsOf n lent s)))
     unfolding stepped shotsOf
     step-stands = by (lit s)
       where
-        by : (b : Bool) → Stands ((b && swaps n (s .beam)) || full) (cond b (advanced n (settled n lent s)) s)
+        by : (b : Bool) → Stands (cond (b && swaps n (s .beam)) swapBase base) (cond b (advanced n (settled n lent s)) s)
             (cond (b && swaps n (s .beam)) [] (l ++ storedBy (cond b (working n lent s .shots) [])))
         by true = lit-stands
         by false = rw (stored-none, append-nil l) i
@@ -134,7 +137,7 @@ module _ {full : Bool} (n : ℕ) (lent : Tables) {s : State} {l : List Stored} (
         mid-ends (settled-fine n lent s f) lit-mid (omega (arith, same .line)) (omega (arith, same .cycle))
 
 -- what a deed leaves
-module _ {full : Bool} (w : World) {l : List Stored} (f : Fine (w .state)) (i : Stands full (w .state) l) where
+module _ {base : Base} (w : World) {l : List Stored} (f : Fine (w .state)) (i : Stands base (w .state) l) where
   does-fine : (d : Deed) → Lawful d (w .state) → Fine (does d w .state)
   does-fine (steps n) pace =
       stepped-fine n (w .tables) (w .state) pace f (step-ends n (w .tables) f i pace)
@@ -143,7 +146,8 @@ module _ {full : Bool} (w : World) {l : List Stored} (f : Fine (w .state)) (i : 
   does-fine (stores t) o = f
   does-fine nothing o = f
 
-  does-stands : (d : Deed) → Lawful d (w .state) → Stands (swapsBy d (w .state) || (not (blanksBy d (w .state)) && full)) (does d w .state)
+  does-stands : (d : Deed) → Lawful d (w .state)
+      → Stands (cond (swapsBy d (w .state)) swapBase (cond (blanksBy d (w .state)) (blankBase (w .state .beam .x)) base)) (does d w .state)
       (cond (swapsBy d (w .state) || blanksBy d (w .state)) [] (l ++ storedBy (shotsBy d (w .state) (w .tables))))
   does-stands (steps n) pace = rw or-false (step-stands n (w .tables) f i pace)
   does-stands (writes address value) o = rw (stored-none, append-nil l) (write-stands address value i)
@@ -151,8 +155,8 @@ module _ {full : Bool} (w : World) {l : List Stored} (f : Fine (w .state)) (i : 
   does-stands (stores t) o = rw (stored-none, append-nil l) i
   does-stands nothing o = rw (stored-none, append-nil l) i
 
--- any call, accepted or refused
-pub go-inv : (c : Call) {full : Bool} {t : Trace} → Inv full t → Inv (fullAfter c (t .world) full) (go c t)
+-- any turn, accepted or refused
+pub go-inv : (c : Turn) {base : Base} {t : Trace} → Inv base t → Inv (baseAfter c (t .world) base) (go c t)
 go-inv c {t = t} i =
     let w = t .world in
     let known = lawful w (i .sizes .tables) (i .fine) c in
@@ -162,15 +166,63 @@ go-inv c {t = t} i =
       stands = does-stands w (i .fine) (i .stands) (deedOf c w) known;
     }
 
-pub begun-inv : (machine : Machine) → Inv false (begun (freshWorld machine))
+pub begun-inv : (machine : Machine) → Inv (blankBase 0) (begun (freshWorld machine))
 begun-inv machine = record { fine = fresh-fine machine; sizes = fresh-sized machine; stands = fresh-stands machine }
 
--- whether a swap is the latest after calls
-unfoldable pub fullAt : List Call → Trace → Bool → Bool
-fullAt [] t full = full
-fullAt (c ∷ rest) t full = fullAt rest (go c t) (fullAfter c (t .world) full)
+-- what a run is counted from after turns
+unfoldable pub baseAt : List Turn → Trace → Base → Base
+baseAt [] t base = base
+baseAt (c ∷ rest) t base = baseAt rest (go c t) (baseAfter c (t .world) base)
 
-pub trace-inv : (calls : List Call) {full : Bool} {t : Trace} → Inv full t → Inv (fullAt calls t full) (trace calls t)
-unfolding trace fullAt
+pub trace-inv : (turns : List Turn) {base : Base} {t : Trace} → Inv base t → Inv (baseAt turns t base) (trace turns t)
+unfolding trace baseAt
 trace-inv [] i = i
-trace-inv (c ∷ rest) {full} {t} i = trace-inv rest (go-inv c i)
+trace-inv (c ∷ rest) {base} {t} i = trace-inv rest (go-inv c i)
+
+-- what holds of a run from a start, and what follows from it
+pub ran-inv : (machine : Machine) (turns : List Turn) → Inv (baseAt turns (begun (freshWorld machine)) (blankBase 0)) (ran machine turns)
+ran-inv machine turns = trace-inv turns (begun-inv machine)
+
+pub of-runs : (P : Trace → Type 0) → ((base : Base) (t : Trace) → Inv base t → P t) → EveryRun P
+of-runs P f machine before = f _ _ (ran-inv machine before)
+
+-- of a run that a swap is the latest of: it goes on full while the display stays on
+pub record Full (t : Trace) : Type 0 where
+  pub base : Base
+  pub inv : Inv base t
+  pub full : base .swap ≡ true
+
+module _ {t : Trace} where
+  pub origin-full : {base : Base} → Inv base t → AtOrigin (t .world) → Full t
+  origin-full {base} i o = record { base = base; inv = i; full = i .stands .origin (o .line) (o .cycle) .0 }
+
+  full-on : (c : Turn) → Full t → blanked c (t .world) ≡ false → Full (go c t)
+  full-on c k off =
+      record {
+        base = baseAfter c (t .world) (k .base);
+        inv = go-inv c (k .inv);
+        full = rw off (by (swapped c (t .world)));
+      }
+    where
+      by : (b : Bool) → cond b swapBase (k .base) .swap ≡ true
+      by true = refl
+      by false = k .full
+
+pub on-full : (turns : List Turn) {t : Trace} → Full t → staysOn turns t ≡ true → Full (trace turns t)
+unfolding trace staysOn
+on-full [] k e = k
+on-full (c ∷ rest) {t} k e =
+    let off : blanked c (t .world) ≡ false = isnt (first (not (blanked c (t .world))) _ e) in
+    on-full rest (full-on c k off) (second (not (blanked c (t .world))) _ e)
+
+-- and one that neither blanks nor swaps is counted from the same
+pub on-same : (turns : List Turn) {base : Base} {t : Trace} → Inv base t → staysOn turns t ≡ true → staysHidden turns t ≡ true
+    → Inv base (trace turns t)
+unfolding trace staysOn staysHidden
+on-same [] i e h = i
+on-same (c ∷ rest) {base} {t} i e h =
+    let w = t .world in
+    let off : blanked c w ≡ false = isnt (first (not (blanked c w)) _ e) in
+    let no : swapped c w ≡ false = isnt (first (not (swapped c w)) _ h) in
+    let next : Inv base (go c t) = (subst (λ (b : Base). Inv b (go c t)) (rw (no, off) refl) (go-inv c i)) in
+    on-same rest next (second (not (blanked c w)) _ e) (second (not (swapped c w)) _ h)

@@ -17,7 +17,7 @@ use Rattle.draw.specs.declared.Shot.{Shot}
 use Rattle.burst.specs.Burst.{allStored, shotStored, drawnInto}
 use Rattle.burst.proofs.Ways.{shot-length}
 use Rattle.step.specs.Step.{shotsOf}
-use Rattle.history.specs.Run.{World, Call, Deed, steps, writes, colours, stores, nothing, does, deedOf, perform, freshWorld}
+use Rattle.history.specs.Run.{World, Turn, Deed, steps, writes, colours, stores, nothing, does, deedOf, perform, freshWorld}
 use Rattle.order.specs.Fine.{Fine}
 use Rattle.history.proofs.Deeds.{Lawful, lawful}
 
@@ -64,7 +64,7 @@ does-tables (colours flag) w l h = h
 does-tables (stores t) w l h = l
 does-tables nothing w l h = h
 
-pub sized-kept : (c : Call) (w : World) → Fine (w .state) → WorldSized w → WorldSized (perform c w)
+pub sized-kept : (c : Turn) (w : World) → Fine (w .state) → WorldSized w → WorldSized (perform c w)
 sized-kept c w f h =
     let same = does-lengths (deedOf c w) w in
     record {

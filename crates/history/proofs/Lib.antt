@@ -9,7 +9,7 @@ pub mod Picture
 pub mod Deeds
 -- the sizes of what is lent stay
 pub mod Kept
--- what the public promises say of a call is what `perform` says
+-- what the promises of `ppu` say of a call is what specs/Public says
 pub mod Public
 -- the start of a step, place by place
 pub mod Views
@@ -21,11 +21,17 @@ pub mod Onward
 pub mod Steps
 -- what holds after any calls from a start
 pub mod Invariant
--- statements 1, 2, 3 and 5 of specs/Demand
+-- statements 2 and 9 of specs/Demand: what a caller holds in hand
+pub mod Answered
+-- statements 1, 3, 4, 5 and 7: never 2, the count, the line's end, line 0, the mark
 pub mod Demand
--- statement 4: each place once
+-- statement 6: each place once
 pub mod Frame
--- statement 6: what the pictures held does not matter
+-- statement 8: a picture torn by a switch-off
+pub mod Torn
+-- statement 10: what the pictures held does not matter
 pub mod Alike
--- frames exist
+-- statements 11 to 13: every number and frames exist
 pub mod Exists
+-- all of them
+pub mod All

@@ -37,6 +37,9 @@ pub rising-lower : {lo lo′ hi : ℕ} {l : List ℕ} → lo′ ≤ lo → Risin
 rising-lower {lo′ = lo′} {hi} h (none b) = let e : lo′ ≤ hi = omega arith in none e
 rising-lower {lo′ = lo′} h (next {a = a} b r) = let e : lo′ ≤ a = omega arith in next e r
 
+pub rising-zero : {lo hi : ℕ} {l : List ℕ} → Rising lo hi l → Rising 0 hi l
+rising-zero r = rising-lower (omega arith) r
+
 pub rising-upper : {lo hi hi′ : ℕ} {l : List ℕ} → hi ≤ hi′ → Rising lo hi l → Rising lo hi′ l
 rising-upper {lo} {hi′ = hi′} h (none b) = let e : lo ≤ hi′ = omega arith in none e
 rising-upper h (next b r) = next b (rising-upper h r)

@@ -1,6 +1,6 @@
 -- One step of a display that is on: it keeps the order; the count, the phase, and that mode 3 is over where line 143 ends.
 use mathlib.Core.Path.{_≡_, refl}
-use mathlib.Core.Bool.{Bool, true, false, cond, _||_}
+use mathlib.Core.Bool.{Bool, true, false, cond}
 use mathlib.Core.List.{List, [], _++_}
 use Prim.Native.Nat.{ℕ, _+_, _%_, _<_}
 use native.Mathlib.Omega.{arith}
@@ -21,12 +21,12 @@ use Rattle.beam.proofs.Ways.{advanced-cases}
 use Rattle.beam.proofs.Fine.{advance-fine}
 use Rattle.step.specs.Step.{lit, working, settled, stepped}
 use Rattle.step.proofs.Keeps.{ready-fine, settled-fine, settled-same}
-use Rattle.ppu.proofs.Pace.{Pace}
+use Rattle.terms.proofs.Pace.{Pace}
 use Rattle.bound.proofs.Potential.{left-positive}
 use Rattle.history.specs.Stored.{storedBy, numbers}
 use Rattle.history.proofs.Places.{burst-ran, burst-idle}
 use Rattle.history.proofs.Views.{ready-count}
-use Rattle.history.proofs.Phase.{Mid, PhaseOf, MidOf, worked}
+use Rattle.history.proofs.Phase.{Base, swapBase, Mid, PhaseOf, MidOf, worked}
 use Rattle.history.proofs.Onward.{onward-phase}
 
 -- a step keeps the order, unless it carries mode 3 out of the last visible line
@@ -43,12 +43,12 @@ stepped-fine n lent s pace f over =
     (λ off. f)
 
 -- the comparison keeps where the beam stands
-compared-mid : (level : Bool) (s : State) {full : Bool} {n : ℕ} {l : List ℕ} → MidOf full n s l → MidOf full n (compared level s) l
+compared-mid : (level : Bool) (s : State) {base : Base} {n : ℕ} {l : List ℕ} → MidOf base n s l → MidOf base n (compared level s) l
 unfolding compared
 compared-mid level s k = rw (compared-mode level s) k
 
 -- mode 3 is over where line 143 ends
-pub mid-ends : {full : Bool} {n : ℕ} {s : State} {l : List ℕ} → Fine s → MidOf full n s l → s .beam .line + 1 ≡ height → s .beam .cycle + n ≡ lineCycles
+pub mid-ends : {base : Base} {n : ℕ} {s : State} {l : List ℕ} → Fine s → MidOf base n s l → s .beam .line + 1 ≡ height → s .beam .cycle + n ≡ lineCycles
     → modeOf (s .regs .stat) ≡ 3 → ⊥
 mid-ends f (Mid.before m low line e up) at end z = m z
 mid-ends {s = s} f (Mid.tight m low line t h up) at end z = let p = left-positive s (f .beam .x) in omega arith
@@ -90,15 +90,15 @@ module _ (n : ℕ) (lent : Tables) (s : State) (f : Fine s) (c : s .beam .count 
 pub settled-swaps : (n : ℕ) (lent : Tables) (s : State) → swaps n (settled n lent s .beam) ≡ swaps n (s .beam)
 settled-swaps n lent s = let same = settled-same n lent s in rw (same .cycle, same .line) refl
 
-module _ {full : Bool} (n : ℕ) (lent : Tables) (s : State) (f : Fine s) (c : s .beam .count < 65536) (pace : Pace (s .beam .cycle) n)
-    {l : List ℕ} (p : PhaseOf full s l) where
+module _ {base : Base} (n : ℕ) (lent : Tables) (s : State) (f : Fine s) (c : s .beam .count < 65536) (pace : Pace (s .beam .cycle) n)
+    {l : List ℕ} (p : PhaseOf base s l) where
   -- before the cycle advances
-  pub step-mid : MidOf full n (settled n lent s) (l ++ numbers (storedBy (working n lent s .shots)))
+  pub step-mid : MidOf base n (settled n lent s) (l ++ numbers (storedBy (working n lent s .shots)))
   unfolding settled
-  step-mid = compared-mid _ _ (worked full n lent s f pace c p)
+  step-mid = compared-mid _ _ (worked base n lent s f pace c p)
 
   -- and after
-  pub step-phase : PhaseOf (swaps n (s .beam) || full) (advanced n (settled n lent s))
+  pub step-phase : PhaseOf (cond (swaps n (s .beam)) swapBase base) (advanced n (settled n lent s))
       (cond (swaps n (s .beam)) [] (l ++ numbers (storedBy (working n lent s .shots))))
   step-phase =
-      rw (settled-swaps n lent s) at (onward-phase full n (settled n lent s) (settled-fine n lent s f) (pace .some) step-mid)
+      rw (settled-swaps n lent s) at (onward-phase base n (settled n lent s) (settled-fine n lent s f) (pace .some) step-mid)

@@ -1,84 +1,110 @@
--- Demand 3, as six statements of any run: proofs/Demand proves each. A run is any list of calls, accepted and refused, from the
--- world after an accepted start (Run, Stored); `since` is what it stored since the latest of start, swap and blanking.
+-- Demand 3: the statements, of any run, and at the end the one record that has them all, `Demand3`; proofs/All proves it
+-- (`demand-3`). A run is any list of turns, accepted and refused, from the world after an accepted start (Run, Stored); `since` is
+-- what it stored since the latest of start, swap and blanking. What a caller holds in hand is what Public says of the functions.
+--
+--     statement         proved in               by
+--     1 Never2          proofs/Demand           never-2
+--     2 Answered        proofs/Answered         answered
+--     3 Counted         proofs/Demand           counted
+--     4 EndsInTime      proofs/Demand           ends-in-time
+--     5 EmptyAtOrigin   proofs/Demand           empty-at-origin
+--     6 EachOnce        proofs/Frame            each-once
+--     7 Marked          proofs/Demand           marked
+--     8 Torn            proofs/Torn             torn
+--     9 PictureGiven    proofs/Answered         picture-given
+--     10 Independent    proofs/Alike            independent
+--     11 EveryNumber    proofs/Exists           every-number
+--     12 Reached        proofs/Exists           reached
+--     13 Begun          proofs/Exists           begun-frame
 use Prim.Native.Nat.{ℕ, _≤_, _<_}
 use mathlib.Core.Path.{_≡_}
 use mathlib.Core.Logic.{_↔_}
-use mathlib.Core.Bool.{Bool, true, not, _&&_}
+use mathlib.Core.Bool.{Bool, true, false, not, _&&_}
 use mathlib.Core.List.{List, [], _∷_, List·Memᴰ}
+use denote.Ref.{RefT, now}
 use lib.ListN.{length, replicate}
 use Rattle.hardware.specs.Screen.{places}
 use Rattle.hardware.specs.declared.Machine.{Machine}
-use Rattle.lcd.specs.Pictures.{Pictures, PicturesSized, SameLengths, shownOf}
+use Rattle.lcd.specs.Pictures.{Pictures, PicturesSized, SameLengths, chosen}
 use Rattle.state.specs.With.{modeOf}
-use Rattle.step.specs.Step.{lit, report}
-use Rattle.step.specs.declared.Report.{Report}
-use Rattle.history.specs.Run.{World, Call, step, number, perform, freshWorld, swapped, blanked}
+use Rattle.step.specs.Step.{lit}
+use Rattle.ppu.specs.declared.StepAnswer.{StepAnswer}
+use Rattle.history.specs.Run.{World, Call, shown, number, Turn, stepping, numberOf, perform, freshWorld, swapped, blanked}
+use Rattle.history.specs.Public.{answer, shownPicture, Stepped, Pictured}
 use Rattle.history.specs.Stored.{Trace, through, go, trace, begun, numbers, from, allBytes}
 
--- calls from an accepted start of any machine
-abbrev pub ran : Machine → List Call → Trace
-ran machine calls = trace calls (begun (freshWorld machine))
+-- turns from an accepted start of any machine
+abbrev pub ran : Machine → List Turn → Trace
+ran machine turns = trace turns (begun (freshWorld machine))
 
--- of every run: any machine, any calls
+-- of every run: any machine, any turns
 abbrev pub EveryRun : (Trace → Type 0) → Type 0
-EveryRun P = (machine : Machine) (before : List Call) → P (ran machine before)
+EveryRun P = (machine : Machine) (before : List Turn) → P (ran machine before)
 
--- what a step answers
-abbrev pub answer : ℕ → World → Report
-answer n w = report n (w .tables) (w .state)
-
--- the picture that is shown
-abbrev pub shownPicture : World → List ℕ
-shownPicture w = shownOf (w .state .beam .shown) (w .pictures)
+-- of every step that may follow a run, with what it answered
+abbrev pub EveryStep : (ℕ → Trace → StepAnswer → Type 0) → Trace → Type 0
+EveryStep P t = (n : ℕ) (r : StepAnswer) (left : World) → Stepped n (t .world) r left → P n t r
 
 -- line 0, cycle 0
 pub record AtOrigin (w : World) : Type 0 where
   pub line : w .state .beam .line ≡ 0
   pub cycle : w .state .beam .cycle ≡ 0
 
--- no call of them switches the display off
-unfoldable pub staysOn : List Call → Trace → Bool
+-- no turn of them switches the display off
+unfoldable pub staysOn : List Turn → Trace → Bool
 staysOn [] t = true
 staysOn (c ∷ rest) t = not (blanked c (t .world)) && staysOn rest (go c t)
 
--- no call of them swaps
-unfoldable pub staysHidden : List Call → Trace → Bool
+-- no turn of them swaps
+unfoldable pub staysHidden : List Turn → Trace → Bool
 staysHidden [] t = true
 staysHidden (c ∷ rest) t = not (swapped c (t .world)) && staysHidden rest (go c t)
 
--- 1. never 2: no call of a run is refused as out of order
+-- 1. never 2: no call on what a run handed back is refused as out of order
 abbrev pub Never2 : Type 0
 Never2 = EveryRun (λ (t : Trace). (c : Call) → number c (t .world) ≡ 2 → ⊥)
 
--- 2. the count, in the state and in the answer of every accepted step, is the number of places stored, at most 23,040
+-- 2. the report in the caller's hand is `answer` where the step is accepted; it says that it swapped exactly if the run did
+pub record Told (n : ℕ) (t : Trace) (r : StepAnswer) : Type 0 where
+  pub report : r .number ≡ 0 → r .report ≡ answer n (t .world)
+  pub swap : r .report .swapped ≡ swapped (stepping n) (t .world)
+
+abbrev pub Answered : Type 0
+Answered = EveryRun (EveryStep Told)
+
+-- 3. the count, in the state and in the answer of every accepted step, is the number of places stored, at most 23,040
 pub record Counts (t : Trace) : Type 0 where
   pub most : length (t .since) ≤ places
   pub state : t .world .state .beam .count ≡ length (t .since)
-  pub answers : (n : ℕ) → number (step n) (t .world) ≡ 0 → answer n (t .world) .count ≡ length (through (step n) t)
+  pub answers : EveryStep (λ (n : ℕ) (u : Trace) (r : StepAnswer). r .number ≡ 0 → r .report .count ≡ length (through (stepping n) u)) t
 
 abbrev pub Counted : Type 0
 Counted = EveryRun Counts
 
--- 3. each line ends in time: mode 3 is over at cycle 284 of its line
+-- 4. each line ends in time: mode 3 is over at cycle 284 of its line
 abbrev pub InTime : World → Type 0
 InTime w = modeOf (w .state .regs .stat) ≡ 3 → (80 < w .state .beam .cycle) × (w .state .beam .cycle < 284)
 
 -- from line 0, cycle 0, never switched off
 abbrev pub EndsInTime : Type 0
 EndsInTime =
-    EveryRun (λ (t : Trace). (after : List Call) → AtOrigin (t .world) → staysOn after t ≡ true → InTime (trace after t .world))
+    EveryRun (λ (t : Trace). (after : List Turn) → AtOrigin (t .world) → staysOn after t ≡ true → InTime (trace after t .world))
 
--- 4. each place once: up to a step that swaps the places stored are 0 to 23,039, rising, and the picture shown after the swap
+-- 5. at line 0, cycle 0 nothing is stored yet
+abbrev pub EmptyAtOrigin : Type 0
+EmptyAtOrigin = EveryRun (λ (t : Trace). AtOrigin (t .world) → t .since ≡ [])
+
+-- 6. each place once: up to a step that swaps the places stored are 0 to 23,039, rising, and the picture shown after the swap
 -- holds exactly their bytes
 pub record Frame (n : ℕ) (t : Trace) : Type 0 where
-  pub once : numbers (through (step n) t) ≡ from 0 places
-  pub shown : shownPicture (perform (step n) (t .world)) ≡ allBytes (through (step n) t)
+  pub once : numbers (through (stepping n) t) ≡ from 0 places
+  pub shown : shownPicture (perform (stepping n) (t .world)) ≡ allBytes (through (stepping n) t)
 
--- after any calls that neither switch the display off nor swap
+-- after any turns that neither switch the display off nor swap
 abbrev pub Once : Trace → Type 0
 Once t =
-    (after : List Call) (n : ℕ) → staysOn after t ≡ true → staysHidden after t ≡ true
-    → swapped (step n) (trace after t .world) ≡ true → Frame n (trace after t)
+    (after : List Turn) (n : ℕ) → staysOn after t ≡ true → staysHidden after t ≡ true
+    → swapped (stepping n) (trace after t .world) ≡ true → Frame n (trace after t)
 
 -- whatever stands in the pictures
 abbrev pub repainted : Trace → Pictures → Trace
@@ -88,15 +114,33 @@ repainted t p = record { world = record { state = t .world .state; tables = t .w
 abbrev pub EachOnce : Type 0
 EachOnce = EveryRun (λ (t : Trace). (p : Pictures) → PicturesSized p → AtOrigin (t .world) → Once (repainted t p))
 
--- 5. the mark is yes exactly if every place was stored
-abbrev pub Mark : ℕ → Trace → Type 0
-Mark n t = (answer n (t .world) .whole ≡ true) ↔ ((k : ℕ) → k < places → List·Memᴰ k (numbers (through (step n) t)))
+-- 7. at every step that swaps, the mark in the caller's hand is yes exactly if every place was stored
+abbrev pub Mark : ℕ → Trace → StepAnswer → Type 0
+Mark n t r = (r .report .whole ≡ true) ↔ ((k : ℕ) → k < places → List·Memᴰ k (numbers (through (stepping n) t)))
 
--- at every step that swaps
 abbrev pub Marked : Type 0
-Marked = EveryRun (λ (t : Trace). (n : ℕ) → swapped (step n) (t .world) ≡ true → Mark n t)
+Marked = EveryRun (EveryStep (λ (n : ℕ) (t : Trace) (r : StepAnswer). r .report .swapped ≡ true → Mark n t r))
 
--- 6. what the pictures held does not matter: worlds that differ only there store the same
+-- 8. a picture torn by a switch-off: after a blanking with LCD x not 0, whatever is done short of another blanking, the mark of
+-- the next swap is no
+abbrev pub TornFrom : Trace → Type 0
+TornFrom t =
+    (after : List Turn) → staysOn after t ≡ true → staysHidden after t ≡ true
+    → EveryStep (λ (n : ℕ) (u : Trace) (r : StepAnswer). r .report .swapped ≡ true → r .report .whole ≡ false) (trace after t)
+
+abbrev pub Torn : Type 0
+Torn =
+    EveryRun (λ (t : Trace). (c : Turn) → blanked c (t .world) ≡ true → (t .world .state .beam .x ≡ 0 → ⊥) → TornFrom (go c t))
+
+-- 9. a picture asked for is always given: the very one lent, with the bytes of the picture shown
+pub record Given (w : World) (a b r : RefT (List ℕ)) : Type 0 where
+  pub lent : r ≡ chosen (w .state .beam .shown) a b
+  pub bytes : now r ≡ shownPicture w
+
+abbrev pub PictureGiven : Type 0
+PictureGiven = EveryRun (λ (t : Trace). (a b r : RefT (List ℕ)) → Pictured (t .world) a b r → Given (t .world) a b r)
+
+-- 10. what the pictures held does not matter: worlds that differ only there store the same
 pub record Alike (w v : World) : Type 0 where
   pub state : w .state ≡ v .state
   pub tables : w .tables ≡ v .tables
@@ -107,14 +151,22 @@ pub record AlikeRuns (t u : Trace) : Type 0 where
   pub since : t .since ≡ u .since
 
 abbrev pub Independent : Type 0
-Independent = (calls : List Call) (w v : World) → Alike w v → AlikeRuns (trace calls (begun w)) (trace calls (begun v))
+Independent = (turns : List Turn) (w v : World) → Alike w v → AlikeRuns (trace turns (begun w)) (trace turns (begun v))
 
--- and not about nothing: from line 0, cycle 0 with the display on, 17,556 steps of 4 are such a run, the last swaps; and a start
+-- 11. and not about nothing: every number of 01's table can be given at any turn
+pub record Occurs (n : ℕ) (w : World) : Type 0 where
+  pub turn : Turn
+  pub number : numberOf turn w ≡ n
+
+abbrev pub EveryNumber : Type 0
+EveryNumber = EveryRun (λ (t : Trace). (n : ℕ) → n ≤ 5 → Occurs n (t .world))
+
+-- 12, 13. frames exist: from line 0, cycle 0 with the display on, 17,556 steps of 4 are such a run, the last swaps; and a start
 -- is 14 steps of 4 before such a place
 pub record Reaches (t : Trace) : Type 0 where
-  pub on : staysOn (replicate 17555 (step 4)) t ≡ true
-  pub hidden : staysHidden (replicate 17555 (step 4)) t ≡ true
-  pub swap : swapped (step 4) (trace (replicate 17555 (step 4)) t .world) ≡ true
+  pub on : staysOn (replicate 17555 (stepping 4)) t ≡ true
+  pub hidden : staysHidden (replicate 17555 (stepping 4)) t ≡ true
+  pub swap : swapped (stepping 4) (trace (replicate 17555 (stepping 4)) t .world) ≡ true
 
 abbrev pub Reached : Type 0
 Reached = EveryRun (λ (t : Trace). AtOrigin (t .world) → lit (t .world .state) ≡ true → Reaches t)
@@ -124,4 +176,20 @@ pub record Begins (t : Trace) : Type 0 where
   pub on : lit (t .world .state) ≡ true
 
 abbrev pub Begun : Type 0
-Begun = (machine : Machine) → Begins (go (step 4) (ran machine (replicate 13 (step 4))))
+Begun = (machine : Machine) → Begins (go (stepping 4) (ran machine (replicate 13 (stepping 4))))
+
+-- all of them
+pub record Demand3 : Type 0 where
+  pub never2 : Never2
+  pub answered : Answered
+  pub counted : Counted
+  pub endsInTime : EndsInTime
+  pub emptyAtOrigin : EmptyAtOrigin
+  pub eachOnce : EachOnce
+  pub marked : Marked
+  pub torn : Torn
+  pub pictureGiven : PictureGiven
+  pub independent : Independent
+  pub everyNumber : EveryNumber
+  pub reached : Reached
+  pub begun : Begun

@@ -1,4 +1,5 @@
 -- Runs of the public calls, and what is proved of them.
 pub mod Run
+pub mod Public
 pub mod Stored
 pub mod Demand

@@ -1,5 +1,6 @@
--- A world, the calls that may come after a start, and what the public promises say of one call.
+-- A world, the calls that may come after a start, the turns of a run, and what the public promises say of one turn.
 use Prim.Native.Nat.{ℕ}
+use mathlib.Core.Path.{_≡_}
 use mathlib.Core.Bool.{Bool, false, cond, _&&_}
 use mathlib.Core.List.{List, []}
 use lib.ListN.{replicate}
@@ -17,8 +18,8 @@ use Rattle.sprite.specs.Pick.{pickNumber}
 use Rattle.draw.specs.declared.Shot.{Shot}
 use Rattle.beam.specs.Advance.{swaps}
 use Rattle.step.specs.Step.{lit, stepped, shotsOf, picturesAfter}
-use Rattle.ppu.specs.Numbers.{stepNumber, writeNumber, readNumber, vramNumber, oamNumber, colourNumber, bugNumber}
-use Rattle.ppu.specs.Calls.{bugRow}
+use Rattle.terms.specs.Numbers.{stepNumber, writeNumber, readNumber, vramNumber, oamNumber, colourNumber, bugNumber, shownNumber}
+use Rattle.ports.specs.Calls.{bugRow}
 
 -- the state and what is lent
 pub record World : Type 0 where
@@ -38,7 +39,7 @@ pub data Call : Type 0 where
   shown : Call
   pick : ℕ → ℕ → Call
 
--- the number that a call is given; asking for the shown picture has none
+-- the number that a call is given in a world; of the shown picture it is not given out: at 0 a picture is, else the empty part
 abbrev pub number : Call → World → ℕ
 number (step n) w = stepNumber (w .state) (w .tables) (w .pictures) n
 number (write address value) w = writeNumber (w .state) (w .pictures) address
@@ -49,7 +50,7 @@ number (colour flag) w = colourNumber (w .state)
 number bugWrite w = bugNumber (w .state) (w .tables .oam)
 number bugRead w = bugNumber (w .state) (w .tables .oam)
 number bugReadWrite w = bugNumber (w .state) (w .tables .oam)
-number shown w = 0
+number shown w = shownNumber (w .state) (w .pictures)
 number (pick line tall) w = pickNumber (w .tables .oam) line tall
 
 -- what a call can do: a step of n cycles, a write of a value to a register, the colour flag, other tables in place, or nothing
@@ -116,20 +117,37 @@ blanksBy (colours flag) s = false
 blanksBy (stores other) s = false
 blanksBy nothing s = false
 
--- one call: a refused one does nothing
-abbrev pub deedOf : Call → World → Deed
-deedOf c w = cond (done (number c w)) (deed c (w .state) (w .tables)) nothing
+-- one turn of a run: a call on the state and the memory that the turn before handed back; or any call with any other state or
+-- lent memory that is refused for it, which leaves this world as it is. A call on another state that is accepted is another
+-- machine's business and no turn of this run
+pub data Turn : Type 0 where
+  ours : Call → Turn
+  astray : (c : Call) (lent : World) → (number c lent ≡ 0 → ⊥) → Turn
 
-abbrev pub perform : Call → World → World
+-- a step of a run
+abbrev pub stepping : ℕ → Turn
+stepping n = ours (step n)
+
+-- the number that a turn is given
+abbrev pub numberOf : Turn → World → ℕ
+numberOf (ours c) w = number c w
+numberOf (astray c lent e) w = number c lent
+
+-- what a turn does: a refused call does nothing
+abbrev pub deedOf : Turn → World → Deed
+deedOf (ours c) w = cond (done (number c w)) (deed c (w .state) (w .tables)) nothing
+deedOf (astray c lent e) w = nothing
+
+abbrev pub perform : Turn → World → World
 perform c w = does (deedOf c w) w
 
-abbrev pub shotsFrom : Call → World → List Shot
+abbrev pub shotsFrom : Turn → World → List Shot
 shotsFrom c w = shotsBy (deedOf c w) (w .state) (w .tables)
 
-abbrev pub swapped : Call → World → Bool
+abbrev pub swapped : Turn → World → Bool
 swapped c w = swapsBy (deedOf c w) (w .state)
 
-abbrev pub blanked : Call → World → Bool
+abbrev pub blanked : Turn → World → Bool
 blanked c w = blanksBy (deedOf c w) (w .state)
 
 -- the world after an accepted start of a machine, whatever the lent buffers held before

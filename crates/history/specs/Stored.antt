@@ -7,7 +7,7 @@ use Rattle.lcd.specs.Mix.{rgbBytes}
 use Rattle.lcd.specs.declared.Rgb.{Rgb}
 use Rattle.draw.specs.declared.Shot.{Shot}
 use Rattle.draw.specs.declared.Shot.the-variants.{Place, Nothing}
-use Rattle.history.specs.Run.{World, Call, perform, shotsFrom, swapped, blanked}
+use Rattle.history.specs.Run.{World, Turn, perform, shotsFrom, swapped, blanked}
 
 -- a stored place: its number, 160 y + x, and its three bytes
 pub record Stored : Type 0 where
@@ -39,18 +39,18 @@ pub record Trace : Type 0 where
   pub world : World
   pub since : List Stored
 
--- what is stored before a call is through: a swap and a blanking forget
-abbrev pub through : Call → Trace → List Stored
+-- what is stored before a turn is through: a swap and a blanking forget
+abbrev pub through : Turn → Trace → List Stored
 through c t = t .since ++ storedBy (shotsFrom c (t .world))
 
-abbrev pub go : Call → Trace → Trace
+abbrev pub go : Turn → Trace → Trace
 go c t =
     record {
       world = perform c (t .world);
       since = cond (swapped c (t .world) || blanked c (t .world)) [] (through c t);
     }
 
-unfoldable pub trace : List Call → Trace → Trace
+unfoldable pub trace : List Turn → Trace → Trace
 trace [] t = t
 trace (c ∷ rest) t = trace rest (go c t)
 

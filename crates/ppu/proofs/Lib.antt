@@ -1,11 +1,5 @@
 -- The laws of `ppu` that belong to no one function.
--- the number of a call that takes a state, and what the number 0 says
-pub mod Graded
--- what a step of 2 or 4 cycles does to the cycle
-pub mod Pace
--- a corruption, refused or done
-pub mod Bug
--- answers are equal by their parts
+-- the answers of a step are equal by their parts
 pub mod Answers
 -- no promise leaves freedom
 pub mod Coincide

@@ -1,3 +1,2 @@
 -- What the public promises cite.
-pub mod Numbers
 pub mod Calls

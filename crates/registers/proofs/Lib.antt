@@ -3,3 +3,5 @@
 pub mod Kept
 -- a register write and the colour flag keep a state in order; a write keeps the mode
 pub mod Fine
+-- the table names each address once, and the rules of a write name no other
+pub mod Table

@@ -1,6 +1,6 @@
 -- 01, "Registers": the registers that can be written, each with its name in Pan Docs.
 use Prim.Native.Nat.{ℕ}
-use mathlib.Core.Bool.{cond}
+use mathlib.Core.Bool.{Bool, false, cond, _||_}
 use mathlib.Core.List.{List, [], _∷_}
 use lib.Dec.{eqb}
 use Rattle.registers.specs.declared.Writable.{Writable}
@@ -37,3 +37,11 @@ keptIn (w ∷ rest) address = cond (eqb (w .0) address) (w .1) (keptIn rest addr
 
 abbrev pub keptBits : ℕ → ℕ
 keptBits address = keptIn writable address
+
+-- whether an address stands in a table
+unfoldable pub listedIn : List Writable → ℕ → Bool
+listedIn [] address = false
+listedIn (w ∷ rest) address = eqb (w .0) address || listedIn rest address
+
+abbrev pub listed : ℕ → Bool
+listed address = listedIn writable address

@@ -101,10 +101,10 @@ pub fn write_port(p: PaletteSet, port: u16, address: u16, v: u8) -> PaletteSet
     ensures { λ r. ⌜ r ≡ portWritten p port address v ⌝ }
 {
     if address == port {
-        return p.write_index(v);
+        return p.after_write(false, v);
     }
     if address == port + 1 {
-        return p.write_color_data(v);
+        return p.after_write(true, v);
     }
     p
 }

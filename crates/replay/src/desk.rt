@@ -1,5 +1,4 @@
 // What requests share, and the answer to any request: every call of the picture unit.
-use crate::canon;
 use hardware::Machine;
 use sprite::SelectedSprite;
 use state::State;
@@ -45,11 +44,16 @@ fn told(desk: Desk, number: u8, value: u8) -> Reply {
     }
 }
 
-// A number, and another state.
-fn moved(desk: Desk, number: u8, state: State) -> Reply {
+// The desk with the state that a call handed back.
+fn handed(desk: Desk, state: State) -> Desk {
     let mut next = desk;
     next.state = state;
-    told(next, number, 0)
+    next
+}
+
+// A number, and the state that a call handed back.
+fn moved(desk: Desk, number: u8, state: State) -> Reply {
+    told(handed(desk, state), number, 0)
 }
 
 // A digest, in the second half of an answer.
@@ -109,11 +113,8 @@ fn step(
         0,
         0,
     ];
-    let state = taken.state;
-    let mut next = desk;
-    next.state = state;
     Reply {
-        desk: next,
+        desk: handed(desk, taken.state),
         head,
         tail,
     }
@@ -143,13 +144,13 @@ fn write_register(
 // A register read.
 fn read_register(desk: Desk, q: [u8; 8]) -> Reply {
     let read = ppu::read_register(desk.state, address_of(q));
-    told(desk, read.number, read.value)
+    told(handed(desk, read.state), read.number, read.value)
 }
 
 // A VRAM write.
 fn write_vram(desk: Desk, vram: &mut [u8; Machine::VRAM_BYTES], q: [u8; 8]) -> Reply {
-    let number = ppu::write_vram(desk.state, vram, address_of(q), q[3]);
-    told(desk, number, 0)
+    let written = ppu::write_vram(desk.state, vram, address_of(q), q[3]);
+    moved(desk, written.number, written.state)
 }
 
 // An OAM write.
@@ -166,12 +167,12 @@ fn set_colour(desk: Desk, flag: u8) -> Reply {
 
 // A corruption of OAM, by its request's number.
 fn corrupt(desk: Desk, oam: &mut [u8; Machine::OAM_BYTES], op: u8) -> Reply {
-    let number = match op {
+    let corrupted = match op {
         8 => ppu::oam_bug_write(desk.state, oam),
         9 => ppu::oam_bug_read(desk.state, oam),
         _ => ppu::oam_bug_read_write(desk.state, oam),
     };
-    told(desk, number, 0)
+    moved(desk, corrupted.number, corrupted.state)
 }
 
 // The picture that is not shown.

@@ -1,5 +1,4 @@
 // Answers a list of requests to the picture unit: eight bytes in, sixteen bytes out, to the end of the input.
-mod canon;
 mod desk;
 
 ghost use Prim.Native.Nat.{_≤_};

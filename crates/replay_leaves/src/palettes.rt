@@ -21,7 +21,7 @@ fn ports(set: PaletteSet) -> [u8; 8]
 fn write_index(set: PaletteSet, v: u8) -> Answered
     ensures { λ r. ⌜ r .set .index < 64 ⌝ }
 {
-    let next = set.write_index(v);
+    let next = set.after_write(false, v);
     let bytes = plain::five(next.read_index(), 0, 0, 0, 0);
     Answered { set: next, bytes }
 }
@@ -31,7 +31,7 @@ fn write_data(set: PaletteSet, v: u8) -> Answered
     requires { ⌜ set .index < 64 ⌝ }
     ensures { λ r. ⌜ r .set .index < 64 ⌝ }
 {
-    let next = set.write_color_data(v);
+    let next = set.after_write(true, v);
     let bytes = ports(next);
     Answered { set: next, bytes }
 }

@@ -7,8 +7,8 @@ use Rattle.refusals.proofs.Given.{refused, accepted}
 use Rattle.refusals.proofs.Ladder.{own-none}
 use Rattle.hardware.proofs.Tables.{tables-sized}
 use Rattle.lcd.proofs.Pictures.{pictures-sized}
-use Rattle.ppu.proofs.Graded.{graded-fine}
-use Rattle.ppu.proofs.Pace.{pace}
+use Rattle.terms.proofs.Graded.{graded-fine}
+use Rattle.terms.proofs.Pace.{pace}
 use Rattle.ppu.proofs.step.Statement.{statement}
 use Rattle.ppu.proofs.step.Tie as tie
 

@@ -1,7 +1,7 @@
 -- `ppu::write_register` meets its contract.
 use borrow.Author.Needs.{needs}
 use Rattle.refusals.proofs.Given.{refused, accepted}
-use Rattle.ppu.proofs.Graded.{graded-fine}
+use Rattle.terms.proofs.Graded.{graded-fine}
 use Rattle.ppu.proofs.write_register.Statement.{statement}
 use Rattle.ppu.proofs.write_register.Tie as tie
 

@@ -15,35 +15,9 @@ use Rattle.sprite.specs.declared.SelectedSprite.{SelectedSprite}
 use Rattle.sprite.specs.declared.Selection.{Selection}
 use mathlib.Core.Logic.{⊎-elim}
 use borrow.Author.Needs.{needs}
+use Rattle.sprite.proofs.Those.{upTo-more, those-append, those-in, those-out}
 use Rattle.sprite.proofs.select.Statement.{statement}
 use Rattle.sprite.proofs.select.Tie as tie
-
--- one entry more
-upTo-more : (n : ℕ) → upTo (n + 1) ≡ upTo n ++ n ∷ []
-unfolding upTo
-upTo-more n = rw add-one
-
--- a test keeps what it keeps of either part
-those-append : (t : ℕ → Bool) (a b : List ℕ) → those t (a ++ b) ≡ those t a ++ those t b
-unfolding those
-those-append t [] b = refl
-those-append t (x ∷ a) b = step (t x) (those-append t a b)
-  where
-    step : (v : Bool) → those t (a ++ b) ≡ those t a ++ those t b
-        → cond v (x ∷ those t (a ++ b)) (those t (a ++ b)) ≡ cond v (x ∷ those t a) (those t a) ++ those t b
-    step true e = ap (λ (l : List ℕ). x ∷ l) e
-    step false e = e
-
-those-one : (t : ℕ → Bool) (x : ℕ) → those t (x ∷ []) ≡ cond (t x) (x ∷ []) []
-unfolding those
-those-one t x = refl
-
-module _ (t : ℕ → Bool) (i : ℕ) where
-  those-in : t i ≡ true → those t (upTo (i + 1)) ≡ those t (upTo i) ++ i ∷ []
-  those-in e = rw (upTo-more, those-append, those-one, e)
-
-  those-out : t i ≡ false → those t (upTo (i + 1)) ≡ those t (upTo i)
-  those-out e = rw (upTo-more, those-append, those-one, e, append-nil)
 
 -- the first i of them stand in front
 upTo-front : (i m : ℕ) → (rest : List ℕ) × (upTo (m + i) ≡ upTo i ++ rest)

@@ -16,19 +16,19 @@ next-below false i h = h
 after-data : {r : PaletteSet} (s : PaletteSet) (v : ℕ) → s .index < 64 → r ≡ dataWritten s v → r .index < 64
 after-data s v h e = rw e (next-below (s .auto) (s .index) h)
 
-write-color-data-requires : tie.Need-write-color-data-requires
-write-color-data-requires c κs = search needs
+after-write-requires : tie.Need-after-write-requires
+after-write-requires c κs = search needs
 
 ports-requires : tie.Need-ports-requires
 ports-requires c κs =
     let start = c .before in
-    after-data (start .args .set) (start .args .v) (start .pre) (c .write-color-data .ensures)
+    after-data (start .args .set) (start .args .v) (start .pre) (c .after-write .ensures)
 
 returns : tie.Need-returns
 returns c =
     let written = c .before in
     let start = written .before in
-    after-data (start .args .set) (start .args .v) (start .pre) (written .write-color-data .ensures)
+    after-data (start .args .set) (start .args .v) (start .pre) (written .after-write .ensures)
 
 pub write-data-spec : {M : Type 1} → statement M
-write-data-spec = tie.close (tie.spec write-color-data-requires ports-requires returns)
+write-data-spec = tie.close (tie.spec after-write-requires ports-requires returns)

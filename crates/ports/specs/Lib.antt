@@ -1,0 +1,2 @@
+-- What the promises of `ports` cite.
+pub mod Calls

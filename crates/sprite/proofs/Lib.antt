@@ -1,0 +1,3 @@
+-- The laws of `sprite` that belong to no one function.
+-- entries that pass a test
+pub mod Those

@@ -1,0 +1,2 @@
+-- What the terms of the public calls cite.
+pub mod Numbers
