@@ -1,7 +1,7 @@
 //! The named cases of document 01, with its figures checked against the machine, and those of docs/DIFFERENCES.md.
 
 use crate::leaves::Leaves;
-use crate::list::request;
+use crate::list::{request, List};
 use crate::machine_lists::Run;
 use crate::memory::{InterruptManager, InterruptType};
 use crate::ppu::parts::LCD_WIDTH;
@@ -9,6 +9,7 @@ use crate::ppu::Ppu;
 use crate::surroundings::warnings;
 use crate::GameBoyConfig;
 use std::io::{self, Write};
+use std::ops::{Deref, DerefMut};
 use std::panic::{self, AssertUnwindSafe};
 
 /// A name, what the document says, what came out.
@@ -48,9 +49,48 @@ const ON: u8 = 0x91;
 const ON_WINDOW: u8 = 0xB1;
 const ON_SPRITES: u8 = 0x93;
 
-/// From a fresh start to line 0, cycle 0.
+/// From a fresh start to line 0, cycle 0, in steps of 4.
 const TO_LINE_0: u32 = 14;
+/// A frame in steps of 4.
 const FRAME: u32 = 17_556;
+/// A line in steps of 2.
+const LINE: u32 = 228;
+
+/// A run, and the named cases that it has ended.
+struct Named<'r, 'a> {
+    run: &'r mut Run<'a>,
+    cases: Vec<Case>,
+}
+
+impl<'r, 'a> Named<'r, 'a> {
+    fn new(run: &'r mut Run<'a>) -> Self {
+        Named {
+            run,
+            cases: Vec::new(),
+        }
+    }
+
+    /// Ends a case. Its list ends with the digests of the state and of what is stored, so that a program which answers
+    /// the list is held to all that the case left behind.
+    fn end(&mut self, case: Case) {
+        self.run.digests();
+        self.cases.push(case);
+    }
+}
+
+impl<'a> Deref for Named<'_, 'a> {
+    type Target = Run<'a>;
+
+    fn deref(&self) -> &Run<'a> {
+        self.run
+    }
+}
+
+impl<'a> DerefMut for Named<'_, 'a> {
+    fn deref_mut(&mut self) -> &mut Run<'a> {
+        self.run
+    }
+}
 
 fn line_and_x(run: &mut Run) -> (u8, u8) {
     let look = run.call(&[15]);
@@ -100,9 +140,7 @@ fn sprite_scene(run: &mut Run, y: u8, x: u8) {
 }
 
 /// The cases that take a few lines of steps.
-fn short_cases(run: &mut Run) -> Vec<Case> {
-    let mut cases = Vec::new();
-
+fn short_cases(run: &mut Named) {
     for device in DEVICES {
         let rows: [(&str, &[(u8, u8)], u16); 4] = [
             ("SCX 0, no window", &[], 252),
@@ -112,7 +150,7 @@ fn short_cases(run: &mut Run) -> Vec<Case> {
         ];
         for (name, writes, said) in rows {
             let found = mode_3_end(run, device, writes);
-            cases.push(case(&format!("mode 3 end: {}, {}", name, device.2), said, found));
+            run.end(case(&format!("mode 3 end: {}, {}", name, device.2), said, found));
         }
     }
 
@@ -121,10 +159,8 @@ fn short_cases(run: &mut Run) -> Vec<Case> {
     steps(run, TO_LINE_0 + 40);
     let before = line_and_x(run).1;
     run.register(0x40, ON & 0x7F);
-    run.call(&[11]);
-    run.call(&[12]);
     let look = run.call(&[15]);
-    cases.push(case(
+    run.end(case(
         "blanking at line 0, cycle 160: line, cycle, LCD x, mode",
         format!("0 4 {} 0, x not 0", before),
         format!(
@@ -139,7 +175,7 @@ fn short_cases(run: &mut Run) -> Vec<Case> {
     let off = run.step(4);
     let refused = run.step(3);
     let look_off = run.call(&[15]);
-    cases.push(case(
+    run.end(case(
         "a step of 4 and a step of 3 while off: numbers, and nothing changes",
         "0 3 true",
         format!("{} {} {}", off[0], refused[0], look == look_off),
@@ -156,8 +192,7 @@ fn short_cases(run: &mut Run) -> Vec<Case> {
     }
     run.register(0x40, ON_SPRITES);
     steps(run, 113);
-    run.call(&[11]);
-    cases.push(case(
+    run.end(case(
         "line 0 after turning on: place 0 by the old selection, place 16 without the new one",
         "[0, 0, 0] [240, 240, 240]",
         format!("{:?} {:?}", place(run, 1, 0, 0), place(run, 1, 16, 0)),
@@ -178,16 +213,14 @@ fn short_cases(run: &mut Run) -> Vec<Case> {
     run.register(0x40, ON_WINDOW);
     steps(run, 113);
     let (line, x) = line_and_x(run);
-    run.call(&[12]);
-    cases.push(case(
+    run.end(case(
         "blanked at LCD x 1, then SCX 1, WX 8, WY 0, window on: line and LCD x at the line's end",
         "1 107",
         format!("{} {}", line, x),
     ));
     steps(run, 114);
     let (line, x) = line_and_x(run);
-    run.call(&[12]);
-    cases.push(case(
+    run.end(case(
         "the line after it ends: line and LCD x",
         "2 0",
         format!("{} {}", line, x),
@@ -195,11 +228,10 @@ fn short_cases(run: &mut Run) -> Vec<Case> {
 
     // Fresh STAT: no coincidence. A step while off shows it.
     run.call(&[1, 0, 1]);
-    run.call(&[12]);
-    run.call(&[11]);
+    run.digests();
     run.register(0x40, 0);
     let answer = run.step(2);
-    cases.push(case("start, LCDC 0, step 2: coincidence", 0, answer[3]));
+    run.end(case("start, LCDC 0, step 2: coincidence", 0, answer[3]));
 
     // P7, through the picture: rows of one line with a telling pattern 0 1 2 3 3 2 1 3.
     for (x, said) in [(3, "[2, 1, 3, 0, 0]"), (0, "[0, 0, 0, 0, 0]")] {
@@ -216,7 +248,7 @@ fn short_cases(run: &mut Run) -> Vec<Case> {
             let shade = place(run, 1, x, 0)[0];
             colours.push([240, 168, 80, 0].iter().position(|&s| s == shade).unwrap_or(9));
         }
-        cases.push(case(&format!("P7: sprite x {}", x), said, format!("{:?}", colours)));
+        run.end(case(&format!("P7: sprite x {}", x), said, format!("{:?}", colours)));
     }
 
     // Ten sprites of eleven on one line; the digest shows which.
@@ -225,7 +257,7 @@ fn short_cases(run: &mut Run) -> Vec<Case> {
         run.oam(4 * entry, 16);
     }
     steps(run, TO_LINE_0 + 2);
-    run.call(&[12]);
+    run.digests();
 
     // STAT bit 5 on lines 0 and 1, on both devices, in steps of 4 and of 2.
     for device in DEVICES {
@@ -238,6 +270,7 @@ fn short_cases(run: &mut Run) -> Vec<Case> {
                 run.step(cycles);
                 run.call(&[12]);
             }
+            run.digests();
         }
     }
 
@@ -252,8 +285,7 @@ fn short_cases(run: &mut Run) -> Vec<Case> {
     run.register(0x40, ON_SPRITES);
     steps(run, 20);
     let after = run.machine.ppu.look_queues();
-    run.call(&[12]);
-    cases.push(case(
+    run.end(case(
         "blanked with sprite pixels queued, SCX 3, on, one step of mode 3: queues before and after",
         "(false, 15, 7) (false, 11, 3)",
         format!("{:?} {:?}", before, after),
@@ -271,8 +303,7 @@ fn short_cases(run: &mut Run) -> Vec<Case> {
     steps(run, TO_LINE_0 + 24);
     run.register(0x40, ON_SPRITES & 0xFE);
     steps(run, 90);
-    run.call(&[11]);
-    cases.push(case(
+    run.end(case(
         "LCDC bit 0 cleared behind place 0: places 2, 7, 8, 16",
         "[168, 168, 168] [168, 168, 168] [168, 168, 168] [240, 240, 240]",
         format!(
@@ -293,8 +324,7 @@ fn short_cases(run: &mut Run) -> Vec<Case> {
         steps(run, TO_LINE_0 + 2);
         run.register(0x40, ON_SPRITES);
         steps(run, 30);
-        run.call(&[11]);
-        cases.push(case(
+        run.end(case(
             &format!("sprite of height 16 drawn at 8, flags {:02X}: place 0", flags),
             said,
             format!("{:?}", place(run, 1, 0, 0)),
@@ -308,7 +338,7 @@ fn short_cases(run: &mut Run) -> Vec<Case> {
     let before = run.machine.ppu.look_stat();
     run.register(0x41, 0xFF);
     let after = run.machine.ppu.look_stat();
-    cases.push(case(
+    run.end(case(
         "P9: STAT before and after",
         "03 7B",
         format!("{:02X} {:02X}", before, after),
@@ -322,10 +352,9 @@ fn short_cases(run: &mut Run) -> Vec<Case> {
         }
         steps(run, TO_LINE_0 + 2);
         run.call(&[op]);
-        run.call(&[11]);
         let oam = run.machine.ppu.look_oam();
         let found = u16::from_le_bytes([oam[8], oam[9]]);
-        cases.push(case(&format!("P11: op {}", op), said, format!("{:04X}", found)));
+        run.end(case(&format!("P11: op {}", op), said, format!("{:04X}", found)));
     }
 
     // The three corruptions in the rows where their rules change.
@@ -344,6 +373,7 @@ fn short_cases(run: &mut Run) -> Vec<Case> {
             run.call(&[11]);
         }
     }
+    run.digests();
 
     // The edges of refusal 5: mode 2 at cycle 2, 4, 80.
     run.call(&[1, 0, 1]);
@@ -356,16 +386,15 @@ fn short_cases(run: &mut Run) -> Vec<Case> {
             numbers.push((2 * cycle, run.machine.ppu.get_current_mode(), number));
         }
     }
-    cases.push(case(
+    run.end(case(
         "corruption on line 0: cycle, mode, number",
         "[(2, 2, 5), (4, 2, 0), (80, 2, 0), (82, 3, 0)]",
         format!("{:?}", numbers),
     ));
-    cases
 }
 
 /// Fresh to the first swap and to the first whole picture.
-fn frame_cases(run: &mut Run, device: (u8, u8, &str)) -> Vec<Case> {
+fn frame_case(run: &mut Named, device: (u8, u8, &str)) {
     run.call(&[1, device.0, device.1]);
     let mut found = Vec::new();
     for step in 1..=TO_LINE_0 + FRAME {
@@ -375,17 +404,15 @@ fn frame_cases(run: &mut Run, device: (u8, u8, &str)) -> Vec<Case> {
             found.push((step, answer[6], count));
         }
     }
-    run.call(&[11]);
-    run.call(&[12]);
-    vec![case(
+    run.end(case(
         &format!("swaps from a fresh start: step of 4, mark, count; {}", device.2),
         format!("{:?}", [(TO_LINE_0, 0, 0), (TO_LINE_0 + FRAME, 1, 23_040)]),
         format!("{:?}", found),
-    )]
+    ));
 }
 
 /// Switching off and on again and again, the fetch column grows while LCD x stays, and wraps.
-fn column_case(run: &mut Run) -> Vec<Case> {
+fn column_case(run: &mut Named) {
     run.call(&[1, 0, 1]);
     for k in 0..0x400u16 {
         run.vram(0x9800 + k, (k ^ k >> 5) as u8);
@@ -397,26 +424,24 @@ fn column_case(run: &mut Run) -> Vec<Case> {
     steps(run, TO_LINE_0 + 24);
     let start = (run.machine.ppu.look_lcd().x(), run.machine.ppu.look_fetch_column());
     // Four draws, off, eight draws with one fetch, off.
-    let mut turn = 0;
-    while turn < 255 {
+    for _ in 0..255 {
         for count in [20, 21] {
             run.register(0x40, ON_WINDOW & 0x7F);
             run.register(0x40, ON_WINDOW);
             steps(run, count);
         }
         run.call(&[12]);
-        turn += 1;
     }
     let end = (run.machine.ppu.look_lcd().x(), run.machine.ppu.look_fetch_column());
-    vec![case(
+    run.end(case(
         "255 fetches by switching off and on: LCD x unmoved, fetch column 255 more modulo 256",
         format!("{:?}", (start.0, start.1.wrapping_add(255))),
         format!("{:?}", end),
-    )]
+    ));
 }
 
 /// The torn picture: off and on at column 100 of line 0 of a dark picture. Line 0 of the next begins at column 100, white
-/// before it, and its mark is no. Leaves the torn picture shown.
+/// before it, and its mark is no. Leaves the torn picture shown. Without a swap in a frame the count is 0.
 fn torn(run: &mut Run) -> (u8, u8, u16) {
     run.call(&[1, 1, 0]);
     for k in 0..16 {
@@ -424,19 +449,22 @@ fn torn(run: &mut Run) -> (u8, u8, u16) {
     }
     run.register(0x43, 1);
     steps(run, TO_LINE_0);
-    while line_and_x(run).1 < 100 {
+    for _ in 0..LINE {
+        if line_and_x(run).1 >= 100 {
+            break;
+        }
         run.step(2);
     }
     let (_, x) = line_and_x(run);
     run.register(0x40, ON & 0x7F);
     run.register(0x40, ON);
-    loop {
+    for _ in 0..2 * FRAME {
         let answer = run.step(2);
         if answer[5] != 0 {
-            run.call(&[11]);
             return (x, answer[6], u16::from_le_bytes([answer[8], answer[9]]));
         }
     }
+    (x, 0, 0)
 }
 
 /// The columns of a line of the shown picture that are white.
@@ -444,17 +472,15 @@ fn white(run: &Run, y: usize) -> Vec<usize> {
     (0..LCD_WIDTH).filter(|&x| place(run, 0, x, y) == [255; 3]).collect()
 }
 
-fn torn_case(run: &mut Run) -> Vec<Case> {
+fn torn_case(run: &mut Named) {
     let figures = torn(run);
     let below = (1..144).map(|y| white(run, y).len()).sum::<usize>();
-    vec![
-        case("torn picture: column of the switch-off, mark, count", "(100, 0, 22940)", format!("{:?}", figures)),
-        case(
-            "torn picture: line 0 is white in columns 0 to 99 and nowhere else, and no line below is",
-            "true 0",
-            format!("{} {}", white(run, 0).into_iter().eq(0..100), below),
-        ),
-    ]
+    run.end(case("torn picture: column of the switch-off, mark, count", "(100, 0, 22940)", format!("{:?}", figures)));
+    run.end(case(
+        "torn picture: line 0 is white in columns 0 to 99 and nowhere else, and no line below is",
+        "true 0",
+        format!("{} {}", white(run, 0).into_iter().eq(0..100), below),
+    ));
 }
 
 /// The torn picture as a PPM file.
@@ -483,15 +509,24 @@ fn stops(call: impl FnOnce()) -> bool {
     stopped
 }
 
+/// Calls the given text of the run's machine itself, past the refusals. It must leave the machine as it was: the call
+/// stands in no list.
+fn past_refusals<T>(run: &mut Run, call: impl FnOnce(&mut Ppu) -> T) -> T {
+    let digests = |run: &mut Run| [11, 12].map(|op| run.machine.answer(request(&[op])));
+    let before = digests(run);
+    let found = call(&mut run.machine.ppu);
+    assert!(digests(run) == before, "a call past the refusals changed the machine of the run");
+    found
+}
+
 /// What docs/DIFFERENCES.md says of the published crate: the unit's answer, and what the given text itself does where it
-/// is called past the oracle's refusals. Such a call stands in no list, and none of them changes the machine of the run.
-fn published_cases(run: &mut Run) -> Vec<Case> {
-    let mut cases = Vec::new();
+/// is called past the oracle's refusals.
+fn published_cases(run: &mut Named) {
     let dmg = GameBoyConfig { is_dmg: true };
     let colour = GameBoyConfig { is_dmg: false };
 
     run.call(&[1, 0, 1]);
-    cases.push(case(
+    run.end(case(
         "published, STAT at the start: here; published",
         "01; 05",
         format!(
@@ -507,7 +542,7 @@ fn published_cases(run: &mut Run) -> Vec<Case> {
     let four = run.step(4)[0];
     let mut free = Ppu::new_skip_boot_rom(true, colour);
     free.clock(&mut Nobody, 3);
-    cases.push(case(
+    run.end(case(
         "published, a step of 3, and a step of 4 at cycle 402: numbers; published: the cycle after a step of 3",
         "3 3; 403",
         format!("{} {}; {}", three, four, free.look_cycle()),
@@ -515,7 +550,7 @@ fn published_cases(run: &mut Run) -> Vec<Case> {
 
     let number = run.call(&[6, 0xA0, 0xFE, 0])[0];
     let stopped = stops(|| Ppu::new_skip_boot_rom(true, colour).write_oam_no_lock(0xFEA0, 0));
-    cases.push(case(
+    run.end(case(
         "published, an OAM write at FEA0: number; published stops",
         "4; true",
         format!("{}; {}", number, stopped),
@@ -526,14 +561,14 @@ fn published_cases(run: &mut Run) -> Vec<Case> {
     steps(run, TO_LINE_0);
     run.step(2);
     let numbers = [8, 9, 10].map(|op| run.call(&[op])[0]);
-    let ppu = &mut run.machine.ppu;
-    let stopped = [
-        stops(|| ppu.oam_bug_write()),
-        stops(|| ppu.oam_bug_read()),
-        stops(|| ppu.oam_bug_read_write()),
-    ];
-    run.call(&[11]);
-    cases.push(case(
+    let stopped = past_refusals(run, |ppu| {
+        [
+            stops(|| ppu.oam_bug_write()),
+            stops(|| ppu.oam_bug_read()),
+            stops(|| ppu.oam_bug_read_write()),
+        ]
+    });
+    run.end(case(
         "published, a corruption in mode 2 at cycle 2: numbers; published stops",
         "[5, 5, 5]; [true, true, true]",
         format!("{:?}; {:?}", numbers, stopped),
@@ -549,8 +584,7 @@ fn published_cases(run: &mut Run) -> Vec<Case> {
     steps(run, 19);
     let before = line_and_x(run).1;
     steps(run, 1);
-    run.call(&[12]);
-    cases.push(case(
+    run.end(case(
         "published, 7 - WX passes a byte: LCD x before the step, WX, discard after it",
         format!("1 8 {}", (256 + 7 - 8) % 256),
         format!("{} 8 {}", before, run.machine.ppu.look_discard()),
@@ -568,10 +602,10 @@ fn published_cases(run: &mut Run) -> Vec<Case> {
         steps(run, 63);
         if line >= 255 {
             rows.push(run.machine.ppu.look_window_row());
-            run.call(&[12]);
+            run.digests();
         }
     }
-    cases.push(case(
+    run.end(case(
         "published, the window row passes a byte: row after 1, 255 and 256 lines in the window",
         format!("{:?}", [1, 255, 256 % 256]),
         format!("{:?}", rows),
@@ -585,8 +619,9 @@ fn published_cases(run: &mut Run) -> Vec<Case> {
         let (line, before) = (line_and_x(run).0, warnings());
         run.register(0x40, ON & 0x7F);
         warned.push((line, warnings() - before));
+        run.digests();
     }
-    cases.push(case(
+    run.end(case(
         "published, the warning at a blanking: line, warnings printed by the published crate",
         "[(153, 0), (0, 1)]",
         format!("{:?}", warned),
@@ -601,7 +636,7 @@ fn published_cases(run: &mut Run) -> Vec<Case> {
     let refused = cut.iter().filter(|&&low| run.call(&[4, low, 0xFF])[0] == 4).count();
     let mut free = Ppu::new_skip_boot_rom(false, dmg);
     free.write_ly(99);
-    cases.push(case(
+    run.end(case(
         "published, write_ly and the readers of 13 registers: numbers; published: LY after it, LCDC, STAT, VBK, FF6C",
         "4, 13 refused by 4; 0 91 85 FE FF",
         format!(
@@ -621,9 +656,8 @@ fn published_cases(run: &mut Run) -> Vec<Case> {
     steps(run, TO_LINE_0 + 2);
     let number = run.call(&[6, 0, 0xFE, 0x12])[0];
     let byte = run.machine.ppu.look_oam()[0];
-    run.machine.ppu.write_oam(0xFE00, 0x34);
-    run.call(&[11]);
-    cases.push(case(
+    past_refusals(run, |ppu| ppu.write_oam(0xFE00, 0x34));
+    run.end(case(
         "published, an OAM write in mode 2: number, byte; published: byte after a locked write, byte read",
         "0 12; 12 FF",
         format!(
@@ -637,7 +671,7 @@ fn published_cases(run: &mut Run) -> Vec<Case> {
 
     // Calls that have no counterpart here.
     let new = Ppu::new(dmg);
-    cases.push(case(
+    run.end(case(
         "published, Ppu::new: LCDC, STAT, line, cycle",
         "00 04 0 4",
         format!(
@@ -659,12 +693,11 @@ fn published_cases(run: &mut Run) -> Vec<Case> {
         let (shown, other) = (ppu.look_lcd().look_picture(0), ppu.look_lcd().look_picture(1));
         [shown[0], other[0], other[other.len() - 1]]
     });
-    cases.push(case(
+    run.end(case(
         "published, enter_stop_mode behind a dark line 0: first byte shown, first and last byte of the other; DMG, not DMG",
         "[[255, 255, 255], [0, 0, 255]]",
         format!("{:?}", stopped),
     ));
-    cases
 }
 
 /// The first bytes of places of a line of the picture not shown; outside colour mode 240, 168, 80, 0, white to black.
@@ -677,21 +710,24 @@ fn end_after(dots: u16) -> u16 {
     80 + (dots - 1) / 2 * 2
 }
 
-/// On DMG: calls, then line 0 in steps of 2 to the end of mode 3; that end.
+/// On DMG: calls, then line 0 in steps of 2 to the end of mode 3; that end, 0 if a line of steps does not reach it.
 fn end_in_twos(run: &mut Run, calls: impl Fn(&mut Run)) -> u16 {
     run.call(&[1, 1, 0]);
     calls(run);
     steps(run, TO_LINE_0 + 20);
     run.step(2);
-    while run.step(2)[2] == 3 {}
+    for _ in 0..LINE {
+        if run.step(2)[2] != 3 {
+            break;
+        }
+    }
     let look = run.call(&[15]);
+    run.digests();
     u16::from_le_bytes([look[6], look[7]])
 }
 
 /// What docs/DIFFERENCES.md says of Pan Docs, in its order: each with the Rust's answer and the other.
-fn pan_docs_cases(run: &mut Run) -> Vec<Case> {
-    let mut cases = Vec::new();
-
+fn pan_docs_cases(run: &mut Named) {
     // WY becomes 0 behind the start of mode 2 of line 0; the window map has a dark tile.
     run.call(&[1, 1, 0]);
     for (address, byte) in [(0x8010, 0xFF), (0x8011, 0xFF), (0x9C00, 1)] {
@@ -703,8 +739,7 @@ fn pan_docs_cases(run: &mut Run) -> Vec<Case> {
     steps(run, TO_LINE_0 + 2);
     run.register(0x4A, 0);
     steps(run, 22);
-    run.call(&[11]);
-    cases.push(parting(
+    run.end(parting(
         "WY 0 written in mode 2 of line 0: place 0",
         "[0]",
         "[240]",
@@ -718,8 +753,7 @@ fn pan_docs_cases(run: &mut Run) -> Vec<Case> {
         run.vram(address, byte);
     }
     steps(run, TO_LINE_0 + 24);
-    run.call(&[11]);
-    cases.push(parting(
+    run.end(parting(
         "a tile attribute on DMG: place 0",
         "[0]",
         "[240]",
@@ -736,8 +770,7 @@ fn pan_docs_cases(run: &mut Run) -> Vec<Case> {
         run.register(0x4B, 15);
         run.register(0x40, control);
         steps(run, TO_LINE_0 + 32);
-        run.call(&[11]);
-        cases.push(parting(
+        run.end(parting(
             &format!("{}: places 4, 7, 8, 11", name),
             "[0, 0, 240, 240]",
             "[0, 0, 0, 0]",
@@ -755,8 +788,7 @@ fn pan_docs_cases(run: &mut Run) -> Vec<Case> {
     steps(run, TO_LINE_0 + 114);
     run.register(0x40, 0xF1);
     steps(run, 24);
-    run.call(&[11]);
-    cases.push(parting(
+    run.end(parting(
         "the window row behind a line with LCDC bit 0 clear: place 0 of line 1",
         "[0]",
         "[240]",
@@ -767,8 +799,7 @@ fn pan_docs_cases(run: &mut Run) -> Vec<Case> {
     run.register(0x47, 3);
     run.register(0x40, 0x90);
     steps(run, TO_LINE_0 + 24);
-    run.call(&[11]);
-    cases.push(parting(
+    run.end(parting(
         "LCDC bit 0 clear on DMG with BGP 03: place 0",
         "[0]",
         "[240]",
@@ -780,8 +811,7 @@ fn pan_docs_cases(run: &mut Run) -> Vec<Case> {
     sprite_scene(run, 16, 8);
     run.oam(3, 8);
     steps(run, TO_LINE_0 + 24);
-    run.call(&[11]);
-    cases.push(parting(
+    run.end(parting(
         "OAM flag bit 3 on DMG: place 0",
         "[240]",
         "[0]",
@@ -798,10 +828,10 @@ fn pan_docs_cases(run: &mut Run) -> Vec<Case> {
         }
         run.register(0x49, 0x55);
         steps(run, TO_LINE_0 + 25);
-        run.call(&[11]);
+        run.digests();
         found.extend(shades(run, 0, &[column]));
     }
-    cases.push(parting(
+    run.end(parting(
         "sprites by coordinate: place 0 with x 8 before x 7, place 2 with x 10 before x 9",
         "[0, 168]",
         "[168, 168]",
@@ -818,8 +848,7 @@ fn pan_docs_cases(run: &mut Run) -> Vec<Case> {
         run.register(low, value);
     }
     steps(run, TO_LINE_0 + 25);
-    run.call(&[11]);
-    cases.push(parting(
+    run.end(parting(
         "FF6C 1 in colour mode: place 2 with x 10 before x 9",
         "[201]",
         "[0]",
@@ -834,8 +863,7 @@ fn pan_docs_cases(run: &mut Run) -> Vec<Case> {
     run.register(0x4B, 166);
     run.register(0x40, 0xF1);
     steps(run, TO_LINE_0 + 2 * 114);
-    run.call(&[11]);
-    cases.push(parting(
+    run.end(parting(
         "WX 166: places 0, 158, 159 of line 1",
         "[240, 240, 0]",
         "[0, 240, 240]",
@@ -853,10 +881,10 @@ fn pan_docs_cases(run: &mut Run) -> Vec<Case> {
         run.register(0x43, scroll);
         run.register(0x40, 0xF1);
         steps(run, TO_LINE_0 + 26);
-        run.call(&[11]);
+        run.digests();
         found.extend(shades(run, 0, &[0]));
     }
-    cases.push(parting(
+    run.end(parting(
         "WX 0: place 0 with SCX 0 and with SCX 3",
         "[0, 0]",
         "two that differ",
@@ -866,23 +894,23 @@ fn pan_docs_cases(run: &mut Run) -> Vec<Case> {
     // Mode 3: 175 dots and SCX modulo 8; with SCX 0 and the window 182 - WX, from WX 8 on 190 - (WX modulo 8); sprites
     // take none.
     let found = end_in_twos(run, |_| ());
-    cases.push(parting("the least mode 3: its end in steps of 2", end_after(175), end_after(172), found));
+    run.end(parting("the least mode 3: its end in steps of 2", end_after(175), end_after(172), found));
     let found = end_in_twos(run, |run| run.register(0x43, 7));
-    cases.push(parting("mode 3 with SCX 7: its end in steps of 2", end_after(175 + 7), end_after(172 + 7), found));
+    run.end(parting("mode 3 with SCX 7: its end in steps of 2", end_after(175 + 7), end_after(172 + 7), found));
     let found = [0, 7, 8, 15].map(|x| {
         end_in_twos(run, |run| {
             run.register(0x4B, x);
             run.register(0x40, ON_WINDOW);
         })
     });
-    cases.push(parting(
+    run.end(parting(
         "mode 3 with the window at WX 0, 7, 8, 15: its end in steps of 2",
         format!("{:?}", [182, 182 - 7, 190, 190 - 7].map(end_after)),
         format!("{:?}", [172 + 6; 4].map(end_after)),
         format!("{:?}", found),
     ));
     let found = end_in_twos(run, |run| sprite_scene(run, 16, 8));
-    cases.push(parting(
+    run.end(parting(
         "mode 3 with a sprite: its end in steps of 2",
         end_after(175),
         format!("{} to {}", end_after(172 + 6), end_after(172 + 11)),
@@ -905,11 +933,11 @@ fn pan_docs_cases(run: &mut Run) -> Vec<Case> {
         for _ in half..80 {
             run.step(2);
         }
-        run.call(&[11]);
+        run.digests();
         let columns: Vec<usize> = (0..80).collect();
         mixed += shades(run, 0, &columns).iter().filter(|&&shade| shade != 168 && shade != 80).count();
     }
-    cases.push(parting(
+    run.end(parting(
         "SCY written at cycles 120, 122, 124, 126: places of neither row",
         0,
         "8 or more, before CGB-D",
@@ -927,8 +955,7 @@ fn pan_docs_cases(run: &mut Run) -> Vec<Case> {
     steps(run, TO_LINE_0 + 2);
     run.register(0x40, ON_SPRITES | 4);
     steps(run, 22);
-    run.call(&[11]);
-    cases.push(parting(
+    run.end(parting(
         "height 16 written at cycle 8, a sprite in entry 39: place 0",
         "[240]",
         "[0]",
@@ -939,8 +966,7 @@ fn pan_docs_cases(run: &mut Run) -> Vec<Case> {
     run.oam(2, 0x12);
     steps(run, TO_LINE_0 + 2);
     run.call(&[8]);
-    run.call(&[11]);
-    cases.push(parting(
+    run.end(parting(
         "OAM corruption in colour mode: byte 10, over which byte 2 is copied",
         "12",
         "00",
@@ -954,7 +980,7 @@ fn pan_docs_cases(run: &mut Run) -> Vec<Case> {
     run.register(0x69, 0xAA);
     steps(run, 50);
     let byte = run.call(&[4, 0x69, 0xFF])[1];
-    cases.push(parting(
+    run.end(parting(
         "palette data written in mode 3: the mode, the byte read in mode 0",
         "3 AA",
         "3 00",
@@ -966,8 +992,7 @@ fn pan_docs_cases(run: &mut Run) -> Vec<Case> {
     run.register(0x69, 0x1F);
     run.register(0x69, 0);
     steps(run, TO_LINE_0 + 24);
-    run.call(&[11]);
-    cases.push(parting(
+    run.end(parting(
         "a palette written on DMG: place 0",
         "[201, 0, 46]",
         "[240, 240, 240]",
@@ -980,8 +1005,7 @@ fn pan_docs_cases(run: &mut Run) -> Vec<Case> {
     run.vram(0x8000, 0xFF);
     run.vram(0x8001, 0xFF);
     steps(run, 3);
-    run.call(&[11]);
-    cases.push(parting(
+    run.end(parting(
         "VRAM written in mode 3: the mode, place 0",
         "3 [0]",
         "3 [240]",
@@ -992,8 +1016,7 @@ fn pan_docs_cases(run: &mut Run) -> Vec<Case> {
     steps(run, TO_LINE_0 + 2);
     let mode = run.machine.ppu.get_current_mode();
     run.oam(0, 0x12);
-    run.call(&[11]);
-    cases.push(parting(
+    run.end(parting(
         "OAM written in mode 2: the mode, the byte",
         "2 12",
         "2 00",
@@ -1003,7 +1026,7 @@ fn pan_docs_cases(run: &mut Run) -> Vec<Case> {
     run.call(&[1, 1, 0]);
     run.register(0x41, 0);
     let answer = run.step(4);
-    cases.push(parting("STAT written in mode 1 on DMG: request bits", 0, 2, answer[1]));
+    run.end(parting("STAT written in mode 1 on DMG: request bits", 0, 2, answer[1]));
 
     // Bit 5 and bit 6: mode 2 holds the level only at cycle 4, so that LY = LYC at cycle 12 finds it low.
     run.call(&[1, 1, 0]);
@@ -1013,7 +1036,7 @@ fn pan_docs_cases(run: &mut Run) -> Vec<Case> {
     let mut found = vec![run.step(4)[1], run.step(4)[1], run.step(4)[1]];
     run.register(0x45, 0);
     found.push(run.step(4)[1]);
-    cases.push(parting(
+    run.end(parting(
         "STAT bits 5 and 6 on DMG, LY = LYC from cycle 12 on: request bits at cycles 0, 4, 8, 12 of line 0",
         "[0, 2, 0, 2]",
         "[2, 0, 0, 0]",
@@ -1035,33 +1058,36 @@ fn pan_docs_cases(run: &mut Run) -> Vec<Case> {
     let last = [run.step(4), run.step(4), run.step(4)].map(|answer| answer[4]);
     steps(run, 114 - 4);
     let swapped = run.step(4)[5];
-    run.call(&[11]);
-    cases.push(parting("the first step after switching on: mode", 0, 2, first));
-    cases.push(parting(
+    run.end(parting("the first step after switching on: mode", 0, 2, first));
+    run.end(parting(
         "STAT bit 5 on DMG, the first two steps of 4 of line 144: mode and request bits",
         "[(0, 0), (1, 3)]",
         "[(1, 1), (1, 0)]",
         format!("{:?}", found),
     ));
-    cases.push(parting(
+    run.end(parting(
         "the first three steps of 4 of line 153: LY",
         "[153, 0, 0]",
         "[153, 153, 153]",
         format!("{:?}", last),
     ));
-    cases.push(parting(
+    run.end(parting(
         "the swap after switching on: swapped, place 0 of line 0 as shown",
         "1 [0, 0, 0]",
         "1 [255, 255, 255]",
         format!("{} {:?}", swapped, place(run, 0, 0, 0)),
     ));
-    cases
 }
 
-/// P1 to P6, P8 and P10, by the protocol `leaves`.
-fn leaf_cases() -> Vec<Case> {
+/// P1 to P6, P8, P10 and the picks of the example, by the protocol `leaves`. What a request leaves behind is read back by
+/// requests that follow it: the slots of a pick, the palette port and its last colour.
+fn leaf_cases(out: &mut dyn Write) -> io::Result<Vec<Case>> {
     let mut leaves = Leaves::new();
-    let mut ask = |bytes: &[u8]| leaves.answer(request(bytes));
+    let mut list = List::new(out, u64::MAX);
+    let mut ask = |bytes: &[u8]| {
+        list.put(request(bytes));
+        leaves.answer(request(bytes))
+    };
     let mut cases = Vec::new();
     for (name, colour, said) in [
         ("P1", [31, 31, 31], "[240, 240, 240]"),
@@ -1092,8 +1118,11 @@ fn leaf_cases() -> Vec<Case> {
     cases.push(case("P6", "[10, 0, 1, 2, 3, 4, 5, 6, 7, 8, 9]", format!("{:?}", picked)));
     ask(&[12, 0xBF]);
     cases.push(case("P8: BF", 0, ask(&[13, 1])[0] & 0x3F));
+    ask(&[15, 7, 3]);
     ask(&[12, 0x3F]);
-    cases.push(case("P8: 3F", 63, ask(&[13, 1])[0] & 0x3F));
+    cases.push(case("P8: 3F", 63, ask(&[13, 2])[0] & 0x3F));
+    ask(&[14]);
+    ask(&[15, 7, 3]);
     let shades: Vec<u8> = (0..4).map(|colour| ask(&[17, 0xFC, colour])[0]).collect();
     cases.push(case("P10", "[0, 3, 3, 3]", format!("{:?}", shades)));
     for (address, byte) in [(8, 20), (9, 8), (10, 5), (11, 0)] {
@@ -1116,36 +1145,44 @@ fn leaf_cases() -> Vec<Case> {
         "[0, 2] [2, 20, 8, 5, 0] [39, 13, 0, 1, 128] [0, 0, 0, 0, 0]",
         picked,
     ));
-    cases
+    list.finish()?;
+    Ok(cases)
 }
 
 /// The short cases, into a list.
 pub fn short(run: &mut Run) {
-    short_cases(run);
+    short_cases(&mut Named::new(run));
 }
 
 fn all(out: &mut dyn Write) -> io::Result<Vec<Case>> {
     let mut run = Run::new(out, u64::MAX, 0, 0);
-    let mut cases = short_cases(&mut run);
+    let mut named = Named::new(&mut run);
+    short_cases(&mut named);
     for device in DEVICES {
-        cases.extend(frame_cases(&mut run, device));
+        frame_case(&mut named, device);
     }
-    cases.extend(column_case(&mut run));
-    cases.extend(torn_case(&mut run));
-    cases.extend(published_cases(&mut run));
-    cases.extend(pan_docs_cases(&mut run));
+    column_case(&mut named);
+    torn_case(&mut named);
+    published_cases(&mut named);
+    pan_docs_cases(&mut named);
+    let cases = named.cases;
     run.finish()?;
     Ok(cases)
 }
 
-/// The calls of all cases.
+/// The calls of all cases on the machine.
 pub fn list(out: &mut dyn Write) -> io::Result<()> {
     all(out).map(|_| ())
 }
 
+/// The requests of the leaf cases.
+pub fn leaves_list(out: &mut dyn Write) -> io::Result<()> {
+    leaf_cases(out).map(|_| ())
+}
+
 /// One line a case; the answer is 1 if a figure differs.
 pub fn print(out: &mut dyn Write) -> io::Result<i32> {
-    let mut cases = leaf_cases();
+    let mut cases = leaf_cases(&mut io::sink())?;
     cases.extend(all(&mut io::sink())?);
     let mut differing = 0;
     for case in &cases {

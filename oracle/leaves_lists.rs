@@ -185,7 +185,83 @@ pub fn exhaustive(out: &mut dyn Write) -> io::Result<()> {
     }
     list.put(request(&[18]));
     digests(list);
+    unknown_into(list);
     all.finish()
+}
+
+/// Every op that is none, and places off the screen.
+pub fn unknown(out: &mut dyn Write) -> io::Result<()> {
+    let mut list = List::new(out, u64::MAX);
+    unknown_into(&mut list);
+    list.finish()
+}
+
+/// Between the requests stand the digests of both pictures, the palette port and the slots of the last pick, and requests
+/// that are answered.
+fn unknown_into(list: &mut List) {
+    fill_oam(list, &telling_oams()[3], 77);
+    pick(list, 50, 16);
+    list.put(request(&[12, 0x8A]));
+    for x in 0..160 {
+        let y = x % 144;
+        let [r, g, b] = colour_of(x, y);
+        list.put(request(&[19, x, y, r, g, b]));
+        list.put(request(&[13, r ^ y]));
+        if x == 79 {
+            list.put(request(&[21]));
+        }
+    }
+    nothing_changed(list);
+    for op in 0..=255u8 {
+        if (1..=22).contains(&op) {
+            continue;
+        }
+        list.put(meaningful(op));
+        list.put(request(&[14]));
+        if op % 32 == 31 {
+            nothing_changed(list);
+            list.put(request(&[13, op]));
+            list.put(request(&[19, op - 31, 9, op & 31, 31, 0]));
+        }
+    }
+
+    // Behind the edges, where a place counted on would be that of another line, and further.
+    let beside = (160..=255).flat_map(|x| [(x, 0), (x, 142), (x, 143)]);
+    let below = (144..=255).flat_map(|y| [(0, y), (1, y), (159, y)]);
+    let corners = [(160, 144), (160, 255), (255, 144), (255, 255)];
+    for (turn, (x, y)) in beside.chain(below).chain(corners).enumerate() {
+        list.put(request(&[19, x, y, 31, 7, 19]));
+        list.put(request(&[20, 0, x, y]));
+        list.put(request(&[20, 1, x, y]));
+        if turn % 64 == 63 {
+            nothing_changed(list);
+            list.put(request(&[19, x % 160, y % 144, 5, 6, 7]));
+            list.put(request(&[20, 1, x % 160, y % 144]));
+        }
+    }
+    nothing_changed(list);
+    list.put(request(&[21]));
+    digests(list);
+}
+
+fn nothing_changed(list: &mut List) {
+    digests(list);
+    list.put(request(&[14]));
+    for k in 0..10 {
+        list.put(request(&[7, k]));
+    }
+}
+
+/// A request with an op and the arguments of the op with the same lower five bits, to show a program that looks at no more
+/// of it.
+fn meaningful(op: u8) -> [u8; 8] {
+    match op % 32 {
+        5 => request(&[op, 5, 0xAA]),
+        6 => request(&[op, 4, 8]),
+        19 => request(&[op, 8, 8, 31, 0, 9]),
+        20 => request(&[op, 1, 8, 8]),
+        _ => [op, 1, 2, 3, 4, 5, 6, 7],
+    }
 }
 
 fn every_colour(list: &mut List) {
@@ -210,6 +286,7 @@ pub fn random(out: &mut dyn Write, seed: u64, count: u64) -> io::Result<()> {
 fn random_into(list: &mut List, seed: u64) {
     let mut random = Random::new(seed);
     let mut last = (0, 0);
+    // Each turn takes a request at least.
     while list.left > 0 {
         let (a, b, c, d) = (random.byte(), random.byte(), random.byte(), random.byte());
         match random.below(100) {
@@ -220,6 +297,7 @@ fn random_into(list: &mut List, seed: u64) {
             14 => {
                 // Forty sprites near one line.
                 if !random.once_in(3) {
+                    off_the_table(list, &mut random);
                     continue;
                 }
                 let line = a % 144;
@@ -319,6 +397,8 @@ fn random_into(list: &mut List, seed: u64) {
             98 => {
                 if random.once_in(3) {
                     list.put(request(&[21]));
+                } else {
+                    list.put(request(&[20, c, last.0, last.1]));
                 }
             }
             _ => {
@@ -326,10 +406,28 @@ fn random_into(list: &mut List, seed: u64) {
                     list.put(request(&[18]));
                 } else if random.once_in(20) {
                     list.put(request(&[22, a & 1]));
+                } else {
+                    list.put(request(&[7, a]));
                 }
             }
         }
     }
+}
+
+/// An unknown op, or a place off the screen.
+fn off_the_table(list: &mut List, random: &mut Random) {
+    let (a, b, c) = (random.byte(), random.byte(), random.byte());
+    let (x, y) = match random.below(3) {
+        0 => (160 + a % 96, b),
+        1 => (a, 144 + b % 112),
+        _ => (160 + a % 96, 144 + b % 112),
+    };
+    list.put(match random.below(3) {
+        // 23 to 255, and 0.
+        0 => [(23 + a as u16 % 234) as u8, b, c, a, b, c, a, b],
+        1 => request(&[19, x, y, a & 31, b & 31, c & 31]),
+        _ => request(&[20, c & 1, x, y]),
+    });
 }
 
 pub fn sample(out: &mut dyn Write) -> io::Result<()> {
@@ -456,6 +554,17 @@ pub fn sample(out: &mut dyn Write) -> io::Result<()> {
     list.put(request(&[21]));
     list.put(request(&[19, 159, 143, 31, 0, 0]));
     digests(list);
+
+    // Unknown ops and the edges of the screen, with what they must not change.
+    for op in [0, 23, 24, 31, 32, 51, 64, 127, 128, 147, 254, 255] {
+        list.put(meaningful(op));
+    }
+    for (x, y) in [(160, 0), (160, 142), (255, 143), (0, 144), (159, 144), (159, 255), (160, 144), (255, 255)] {
+        list.put(request(&[19, x, y, 31, 7, 19]));
+        list.put(request(&[20, 0, x, y]));
+        list.put(request(&[20, 1, x, y]));
+    }
+    nothing_changed(list);
 
     list.left = 700;
     random_into(list, 1);

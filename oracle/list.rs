@@ -1,4 +1,4 @@
-//! What both protocols share: the digest, the random numbers, and the list being made.
+//! What both protocols share: the digest, the random numbers, the list being made, and a number in print.
 
 use std::io::{self, Write};
 
@@ -55,6 +55,14 @@ impl Random {
     }
 }
 
+/// A number with its thousands apart.
+pub fn spaced(number: u64) -> String {
+    match number / 1000 {
+        0 => number.to_string(),
+        more => format!("{},{:03}", spaced(more), number % 1000),
+    }
+}
+
 /// Up to eight bytes of a request, the rest 0.
 pub fn request(bytes: &[u8]) -> [u8; 8] {
     let mut whole = [0; 8];
@@ -62,7 +70,8 @@ pub fn request(bytes: &[u8]) -> [u8; 8] {
     whole
 }
 
-/// A list of requests that takes no more than its limit.
+/// A list of requests that takes no more than its limit, and none after one that could not be written. (The oracle itself
+/// ends there: `Output` in main.rs.)
 pub struct List<'a> {
     out: &'a mut dyn Write,
     pub left: u64,

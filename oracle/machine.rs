@@ -5,7 +5,6 @@ use crate::list::Digest;
 use crate::memory::{InterruptManager, InterruptType};
 use crate::ppu::parts::{LCD_HEIGHT, LCD_WIDTH};
 use crate::ppu::{LookSelected, Ppu};
-use std::io::{self, Write};
 
 const WHOLE: u16 = (LCD_WIDTH * LCD_HEIGHT) as u16;
 
@@ -31,6 +30,12 @@ pub struct Machine {
     pub count: u16,
     pick: [LookSelected; 10],
     bytes: Vec<u8>,
+}
+
+impl Default for Machine {
+    fn default() -> Self {
+        Machine::new()
+    }
 }
 
 impl Machine {
@@ -74,6 +79,7 @@ impl Machine {
                 digest.take(self.ppu.look_lcd().look_picture(0));
                 digest.take(self.ppu.look_lcd().look_picture(1));
                 digest.take(&self.ppu.look_oam());
+                digest.take(self.ppu.look_vram());
                 answer[8..].copy_from_slice(&digest.0.to_le_bytes());
             }
             12 => {
@@ -193,113 +199,5 @@ impl Machine {
             _ => self.ppu.oam_bug_read_write(),
         }
         0
-    }
-}
-
-/// Counts over a list of calls, and the rule that every state is in order.
-pub struct Check {
-    machine: Machine,
-    calls: u64,
-    ops: [u64; 16],
-    refusals: [u64; 6],
-    requests: [u64; 4],
-    swaps: u64,
-    whole: u64,
-    blankings: u64,
-    largest_count: u16,
-    unended_lines: u64,
-    window_entries: u64,
-    waiting: u64,
-    background_lengths: [u64; 17],
-    sprite_lengths: [u64; 9],
-    disorder: Option<(u64, &'static str)>,
-}
-
-impl Check {
-    pub fn new() -> Self {
-        Check {
-            machine: Machine::new(),
-            calls: 0,
-            ops: [0; 16],
-            refusals: [0; 6],
-            requests: [0; 4],
-            swaps: 0,
-            whole: 0,
-            blankings: 0,
-            largest_count: 0,
-            unended_lines: 0,
-            window_entries: 0,
-            waiting: 0,
-            background_lengths: [0; 17],
-            sprite_lengths: [0; 9],
-            disorder: None,
-        }
-    }
-
-    pub fn take(&mut self, request: [u8; 8]) {
-        let ppu = &self.machine.ppu;
-        let was_on = ppu.read_lcd_control() & 0x80 != 0;
-        let was_in_window = ppu.look_in_window();
-        let line = ppu.look_line();
-        let answer = self.machine.answer(request);
-        let ppu = &self.machine.ppu;
-
-        self.calls += 1;
-        self.ops[request[0] as usize & 15] += 1;
-        if answer[0] < 6 {
-            self.refusals[answer[0] as usize] += 1;
-        }
-        if request[0] == 2 && answer[0] == 0 {
-            self.requests[answer[1] as usize & 3] += 1;
-            self.swaps += answer[5] as u64;
-            self.whole += answer[6] as u64;
-            let count = u16::from_le_bytes([answer[8], answer[9]]);
-            self.largest_count = self.largest_count.max(count);
-            self.window_entries += (!was_in_window && ppu.look_in_window()) as u64;
-            let left_line = ppu.look_line() != line;
-            self.unended_lines += (left_line && ppu.get_current_mode() == 3) as u64;
-        }
-        let is_on = ppu.read_lcd_control() & 0x80 != 0;
-        self.blankings += (request[0] == 3 && was_on && !is_on) as u64;
-        let (waiting, background, sprite) = ppu.look_queues();
-        self.waiting += waiting as u64;
-        self.background_lengths[background] += 1;
-        self.sprite_lengths[sprite] += 1;
-        if self.disorder.is_none() {
-            let calls = self.calls;
-            self.disorder = ppu.look_disorder().map(|rule| (calls, rule));
-        }
-    }
-
-    pub fn print(&self, out: &mut dyn Write) -> io::Result<i32> {
-        writeln!(out, "calls {}", self.calls)?;
-        writeln!(out, "calls by op 0 to 15 {:?}", self.ops)?;
-        writeln!(out, "answers by number 0 to 5 {:?}", self.refusals)?;
-        writeln!(
-            out,
-            "steps by request: none {}, VBlank {}, STAT {}, both {}",
-            self.requests[0], self.requests[1], self.requests[2], self.requests[3]
-        )?;
-        writeln!(
-            out,
-            "swaps {}, with the whole mark {}, blankings {}, largest count {}",
-            self.swaps, self.whole, self.blankings, self.largest_count
-        )?;
-        writeln!(
-            out,
-            "window entries {}, lines left in mode 3 {}",
-            self.window_entries, self.unended_lines
-        )?;
-        writeln!(
-            out,
-            "after a call: a fetched row waits {}; by background queue length {:?}; by sprite queue length {:?}",
-            self.waiting, self.background_lengths, self.sprite_lengths
-        )?;
-        match self.disorder {
-            None => writeln!(out, "every state in order")?,
-            Some((call, rule)) => writeln!(out, "after call {} not in order: {}", call, rule)?,
-        }
-        out.flush()?;
-        Ok(self.disorder.is_some() as i32)
     }
 }

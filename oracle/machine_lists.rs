@@ -6,8 +6,14 @@ use crate::list::{request, List, Random};
 use crate::machine::Machine;
 use std::io::{self, Write};
 
+/// A line and a frame in steps of 4.
 const LINE: u32 = 114;
 const FRAME: u32 = 17_556;
+
+/// DMG and colour of the starts of a random list, in turn; all but 0 is yes.
+const STARTS: [(u8, u8); 4] = [(1, 0), (0, 1), (255, 2), (0, 0)];
+/// A random list starts anew after so many calls at the latest, and the stretch that is under way.
+const AT_LATEST: u32 = 60_000;
 
 pub struct Run<'a> {
     list: List<'a>,
@@ -19,6 +25,11 @@ pub struct Run<'a> {
     since_pictures: u32,
     /// The display is not switched by a random write.
     steady: bool,
+    /// The place in `STARTS` of the next start, and the calls since the last.
+    next_start: usize,
+    since_start: u32,
+    /// The ops of the last two calls.
+    last: [u8; 2],
 }
 
 /// Which steps a stretch is made of.
@@ -40,6 +51,9 @@ impl<'a> Run<'a> {
             since_state: 0,
             since_pictures: 0,
             steady: false,
+            next_start: 0,
+            since_start: 0,
+            last: [0; 2],
         }
     }
 
@@ -58,6 +72,8 @@ impl<'a> Run<'a> {
             return [0; 16];
         }
         let answer = self.machine.answer(call);
+        self.last = [self.last[1], call[0]];
+        self.since_start = self.since_start.saturating_add(1);
         if self.digest_every != 0 {
             self.since_state += 1;
             self.since_pictures += 1;
@@ -92,6 +108,14 @@ impl<'a> Run<'a> {
         self.call(&[2, cycles])
     }
 
+    /// The digests of the state and of what is stored, unless they were the last two calls.
+    pub fn digests(&mut self) {
+        if self.last != [12, 11] {
+            self.call(&[12]);
+            self.call(&[11]);
+        }
+    }
+
     fn gait(&mut self) -> Gait {
         match self.random.below(20) {
             0..=10 => Gait::Fours,
@@ -101,7 +125,8 @@ impl<'a> Run<'a> {
         }
     }
 
-    fn stride(&mut self, gait: Gait) {
+    /// A step and perhaps a look; gives the step's answer.
+    fn stride(&mut self, gait: Gait) -> [u8; 16] {
         let aligned = self.machine.ppu.look_cycle() % 4 == 0;
         let cycles = match gait {
             Gait::Fours if aligned => 4,
@@ -110,8 +135,9 @@ impl<'a> Run<'a> {
             Gait::Mixed => 2,
             Gait::Careless => self.random.of(&[2, 2, 2, 4, 4, 4, 4, 0, 1, 3, 5, 6, 8, 255]),
         };
-        self.step(cycles);
+        let answer = self.step(cycles);
         self.watch();
+        answer
     }
 
     /// Where the STAT level and the selection change in a step or two, look more often.
@@ -217,7 +243,7 @@ impl<'a> Run<'a> {
             }
             22 => self.register(0x6C, any),
             _ => {
-                let flag = self.random.below(2) as u8;
+                let flag = self.random.of(&[0, 0, 0, 1, 1, 255]);
                 self.call(&[7, flag]);
             }
         }
@@ -256,13 +282,19 @@ impl<'a> Run<'a> {
                 let high = self.random.of(&[0xFF, 0xFF, 0xFE, 0x00]);
                 self.call(&[3, low, high, c]);
             }
-            _ => {
-                if self.random.once_in(2) {
-                    self.pick();
-                } else {
+            _ => match self.random.below(6) {
+                0..=2 => self.pick(),
+                3..=4 => {
                     self.call(&[15]);
                 }
-            }
+                _ if a % 2 == 0 => {
+                    self.call(&[14, b.max(10)]);
+                }
+                _ => {
+                    // 16 to 255, and 0.
+                    self.call(&meaningful((16 + b as u16 % 241) as u8));
+                }
+            },
         }
     }
 
@@ -377,12 +409,9 @@ impl<'a> Run<'a> {
     }
 
     fn start(&mut self) {
-        let (dmg, colour) = match self.random.below(8) {
-            0..=2 => (1, 0),
-            3 => (1, 1),
-            4..=6 => (0, 1),
-            _ => (0, 0),
-        };
+        let (dmg, colour) = STARTS[self.next_start];
+        self.next_start = (self.next_start + 1) % STARTS.len();
+        self.since_start = 0;
         self.call(&[1, dmg, colour]);
         self.call(&[12]);
         self.call(&[11]);
@@ -454,10 +483,58 @@ impl<'a> Run<'a> {
         self.strides(LINE, gait);
     }
 
+    /// On to a swap and from it to the next, with the display on, so that the second may have the whole mark; a write now
+    /// and then.
+    fn whole_frame(&mut self) {
+        if !self.is_on() {
+            self.switch_on();
+        }
+        let (gait, apart) = (self.gait(), 100 + self.random.below(900));
+        let gait = if let Gait::Fours = gait { gait } else { Gait::Mixed };
+        self.steady = true;
+        for _ in 0..2 {
+            // A frame of steps of 2 at most.
+            for _ in 0..2 * FRAME {
+                if self.left() == 0 || self.stride(gait)[5] != 0 {
+                    break;
+                }
+                if self.random.once_in(apart) {
+                    self.poke();
+                }
+            }
+        }
+        self.steady = false;
+        self.digests();
+    }
+
+    /// The three corruptions at cycle 2 of a line, where mode 2 refuses them, and at cycle 4.
+    fn early_corruptions(&mut self) {
+        // A line of steps of 2 at most.
+        for _ in 0..2 * LINE {
+            if !self.is_on() || self.left() == 0 {
+                return;
+            }
+            if self.machine.ppu.look_cycle() == 0 {
+                break;
+            }
+            self.stride(Gait::Mixed);
+        }
+        for _ in 0..2 {
+            self.step(2);
+            for op in [8, 9, 10] {
+                self.call(&[op]);
+            }
+        }
+        self.digests();
+    }
+
+    /// A stretch of a random list. It begins with a call, so that a list of them fills up.
     fn episode(&mut self) {
+        self.call(&[15]);
         let gait = self.gait();
-        match self.random.below(100) {
-            0..=17 => {
+        let what = if self.since_start < AT_LATEST { self.random.below(100) } else { 98 };
+        match what {
+            0..=16 => {
                 let count = match self.random.below(10) {
                     0..=3 => self.random.below(LINE),
                     4..=7 => self.random.below(10 * LINE),
@@ -466,6 +543,7 @@ impl<'a> Run<'a> {
                 };
                 self.strides(count, gait);
             }
+            17 => self.whole_frame(),
             18..=49 => {
                 for _ in 0..self.random.below(400) {
                     let steps = self.random.below(4);
@@ -482,7 +560,8 @@ impl<'a> Run<'a> {
             }
             72..=77 => self.off_and_on(),
             78..=80 => self.long_line(),
-            81..=86 => {
+            81..=83 => self.early_corruptions(),
+            84..=86 => {
                 self.until_mode(2);
                 for _ in 0..60 {
                     if self.random.once_in(3) {
@@ -493,14 +572,17 @@ impl<'a> Run<'a> {
                 }
             }
             87..=90 => self.pick(),
-            91..=94 => self.fill_oam(),
-            95 => self.fill_palettes(20),
-            96..=97 => self.fill_vram(200, 200),
-            98 if self.random.once_in(3) => {
+            91..=92 => self.fill_oam(),
+            93 => self.fill_palettes(20),
+            94 => self.fill_vram(200, 200),
+            95 => self.dense_scene(),
+            96..=98 => {
                 self.start();
                 self.scene();
+                if self.random.once_in(2) {
+                    self.whole_frame();
+                }
             }
-            98 => self.dense_scene(),
             _ => {
                 for _ in 0..10 {
                     self.poke_register();
@@ -516,10 +598,12 @@ impl<'a> Run<'a> {
 
 pub fn random(out: &mut dyn Write, seed: u64, count: u64) -> io::Result<()> {
     let mut run = Run::new(out, count, seed, 200);
+    run.next_start = run.random.below(STARTS.len() as u32) as usize;
     run.start();
     if !run.random.once_in(4) {
         run.scene();
     }
+    // Each episode takes a call at least.
     while run.left() > 0 {
         run.episode();
     }
@@ -548,13 +632,128 @@ pub fn sample(out: &mut dyn Write) -> io::Result<()> {
     run.call(&[11]);
     run.call(&[12]);
 
+    // Each takes its first five writes at least.
     while run.left() > 0 {
         run.short_blanking();
     }
     run.finish()
 }
 
+/// Every byte of VRAM in both banks, every OAM address, every value of every register and every address of their page, each
+/// looked for afterwards: a write that is lost, or goes astray, at one address is seen.
+pub fn writes(out: &mut dyn Write) -> io::Result<()> {
+    let mut run = Run::new(out, u64::MAX, 5, 0);
+    run.call(&[1, 0, 1]);
+    for bank in 0..2u16 {
+        run.register(0x4F, bank as u8);
+        for offset in 0..0x2000u16 {
+            // Never 0, which is there already; the address by turns in every 8 KiB.
+            let byte = (offset ^ offset >> 7 ^ 77 * bank) as u8 | 1;
+            run.vram(0x2000 * (offset % 8) + offset, byte);
+            if offset % 0x400 == 0x3FF {
+                run.call(&[11]);
+            }
+        }
+    }
+    for low in 0..=255u8 {
+        run.call(&[6, low, low ^ 0xFE, low ^ 0x55]);
+        if low % 16 == 15 {
+            run.call(&[11]);
+        }
+    }
+    for (dmg, colour) in STARTS {
+        run.call(&[1, dmg, colour]);
+        for low in 0..=255u8 {
+            for value in 0..=255u8 {
+                // The page of the registers once; where a write is accepted, every value and what the ports read as.
+                if run.call(&[3, low, 0xFF, value])[0] != 0 {
+                    break;
+                }
+                run.call(&[12]);
+                run.call(&[4, low, 0xFF]);
+            }
+            run.call(&[4, low, 0xFF]);
+        }
+        run.digests();
+    }
+    run.finish()
+}
+
+/// Every op that is none and every slot over 9, in mode 3 of a line with sprites. Between them stand the digests, the slots
+/// of the last pick and accepted calls.
+pub fn unknown(out: &mut dyn Write) -> io::Result<()> {
+    let mut run = Run::new(out, u64::MAX, 4, 0);
+    run.call(&[1, 0, 1]);
+    run.dense_scene();
+    run.fill_palettes(64);
+    run.register(0x4B, 60);
+    run.register(0x40, 0xB7);
+    for _ in 0..14 + 16 * LINE + 30 {
+        run.step(4);
+    }
+    run.call(&[13, 16, 16]);
+    run.nothing_changed();
+
+    for op in 0..=255u8 {
+        if (1..=15).contains(&op) {
+            continue;
+        }
+        run.call(&meaningful(op));
+        run.call(&[12]);
+        if op % 16 == 15 {
+            run.nothing_changed();
+            run.step(4);
+            run.register(0x42, op);
+            run.oam(op % 160, op);
+        }
+    }
+    run.call(&[13, 17, 16]);
+    for k in 10..=255u8 {
+        run.call(&[14, k, 1, 2, 3]);
+        if k % 16 == 15 {
+            run.nothing_changed();
+            run.step(2);
+            run.step(2);
+        }
+    }
+    run.nothing_changed();
+    for _ in 0..LINE {
+        run.step(4);
+    }
+    run.digests();
+    run.finish()
+}
+
+/// A call with an op and the arguments of an accepted call of the op with the same lower four bits, to show a program that
+/// looks at no more of it.
+fn meaningful(op: u8) -> [u8; 8] {
+    let arguments: &[u8] = match op % 16 {
+        1 => &[1, 0],
+        2 => &[4],
+        3 => &[0x40, 0xFF, 0x11],
+        4 => &[0x69, 0xFF],
+        5 => &[0x00, 0x80, 0xAA],
+        6 => &[0x05, 0xFE, 0xAA],
+        7 => &[0],
+        13 => &[40, 8],
+        14 => &[3],
+        _ => &[1, 2, 3, 4, 5, 6, 7],
+    };
+    let mut call = [0; 8];
+    call[0] = op;
+    call[1..1 + arguments.len()].copy_from_slice(arguments);
+    call
+}
+
 impl<'a> Run<'a> {
+    /// The slots of the last pick and the digests.
+    fn nothing_changed(&mut self) {
+        for k in 0..10 {
+            self.call(&[14, k]);
+        }
+        self.digests();
+    }
+
     /// Steps of 4 with a write about every `apart` steps; the display stays on.
     fn busy_frame(&mut self, steps: u32, apart: u32) {
         self.steady = true;

@@ -7,24 +7,27 @@ import sys
 from pathlib import Path
 
 
-def apply(edit, crates):
-    path, old, pairs = None, None, 0
-    for line in edit.read_text().splitlines():
+def edited(edit, folder):
+    """The files that an edit changes, with their texts after it; its `file:` lines are relative to the folder."""
+    texts, path, old = {}, None, None
+    for line in edit.read_text(encoding="utf-8").splitlines():
         key, _, text = line.partition(": ")
         if key == "file":
-            path = crates / text
+            path = folder / text
         elif key == "old":
             old = text
-        elif key == "new" and path and old is not None:
-            whole = path.read_text()
+        elif key in ("new", "new:") and path and old is not None:
+            whole = texts[path] if path in texts else path.read_text(encoding="utf-8")
             if whole.count(old) != 1:
                 sys.exit(f"edit.py: {edit}: an `old:` text stands {whole.count(old)} times in {path}")
-            path.write_text(whole.replace(old, text))
-            old, pairs = None, pairs + 1
-    if not pairs:
+            texts[path], old = whole.replace(old, text), None
+    if not texts:
         sys.exit(f"edit.py: {edit}: it has no `old:` and `new:` pair")
+    return texts
 
 
-if len(sys.argv) != 3:
-    sys.exit("usage: tests/edit.py EDIT CRATES")
-apply(Path(sys.argv[1]), Path(sys.argv[2]))
+if __name__ == "__main__":
+    if len(sys.argv) != 3:
+        sys.exit("usage: tests/edit.py EDIT CRATES")
+    for path, text in edited(Path(sys.argv[1]), Path(sys.argv[2])).items():
+        path.write_text(text, encoding="utf-8")

@@ -39,7 +39,7 @@ mod sweep;
 mod tiles;
 
 use bench::{Bench, Part};
-use given::list::Digest;
+use given::list::{spaced, Digest};
 use std::time::Instant;
 
 const PARTS: &[(&str, Part)] = &[
@@ -78,18 +78,8 @@ const PARTS: &[(&str, Part)] = &[
     ("sweep", sweep::sweep),
 ];
 
-/// A number with its thousands apart.
-pub fn spaced(number: u64) -> String {
-    let digits = number.to_string();
-    let mut out = String::new();
-    for (i, digit) in digits.chars().enumerate() {
-        if i > 0 && (digits.len() - i) % 3 == 0 {
-            out.push(',');
-        }
-        out.push(digit);
-    }
-    out
-}
+/// The cases of all parts at their own sizes, seed 1: a part that lost some is seen.
+const ALL: u64 = 26_008_596;
 
 fn main() {
     let words: Vec<String> = std::env::args().skip(1).collect();
@@ -143,11 +133,19 @@ fn main() {
                 std::process::exit(1)
             }
         }
+        if bench.cases == 0 {
+            println!("{}: no case was tried, seed {}", name, seed);
+            std::process::exit(1)
+        }
         total += bench.cases;
     }
     if total == 0 {
         eprintln!("parts: no part of that name");
         std::process::exit(2)
+    }
+    if words.is_empty() && total != ALL {
+        println!("parts: {} cases, where {} were to be tried", spaced(total), spaced(ALL));
+        std::process::exit(1)
     }
     println!(
         "{:<23} {:>10} cases {:>6.2} s",

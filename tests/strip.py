@@ -2,8 +2,9 @@
 """Turns Rattle crates into one Rust file, a module a crate: tests/strip.py CRATE.. >rattle.rs
 
 Dropped are the `ghost use` lines and the clauses of the contracts; all else stays as it is. Every struct and enum gets
-the derives that a comparison needs, `std::num::wrapping_sub_u8` becomes `u8::wrapping_sub`, and a crate's `use` lines
-are made public, so that a name is found in every module that knows it."""
+the derives that a comparison needs, `std::num::wrapping_sub_u8` becomes `u8::wrapping_sub`, a `let .. else` is written
+out as the `match` that it stands for, since Debian 12's rustc (1.63) has no such form, and a crate's `use` lines are made
+public, so that a name is found in every module that knows it."""
 import re
 import sys
 from pathlib import Path
@@ -13,6 +14,7 @@ CLAUSE = re.compile(r"^[ \t]*(?:ghost|requires|ensures)\s*\{", re.M)
 TYPE = re.compile(r"^(?:pub )?(?:struct|enum) (?:.*;$|(?:.|\n)*?\n\})", re.M)
 USE = re.compile(r"^use ", re.M)
 STD_NUM = re.compile(r"\bstd::num::(\w+)_([ui](?:8|16|32|64|128|size))\b")
+LET_ELSE = re.compile(r"\blet (\w+::\w+)\(([\w, ]*)\) = ([^;{}]+) else (\{[^{}]*\});")
 DERIVE = "#[derive(Clone, Copy, Debug, PartialEq)]\n"
 
 
@@ -41,6 +43,9 @@ def module(name, others):
     text = Path("crates", name, "src", "lib.rt").read_text(encoding="utf-8")
     text = without_clauses(GHOST_USE.sub("", text), name)
     text = STD_NUM.sub(r"\2::\1", USE.sub("pub use ", TYPE.sub(derived, text)))
+    text = LET_ELSE.sub(r"let (\2) = match \3 { \1(\2) => (\2), _ => \4 };", text)
+    if re.search(r"\blet\b[^;{}]*\belse\b", re.sub(r"//.*", "", text)):
+        sys.exit(f"strip.py: crate {name}: a `let .. else` of another form than `let A::B(c, d) = e else {{ .. }};`")
     return f"pub mod {name} {{\nuse crate::{{{', '.join(others)}}};\n{text}}}\n"
 
 

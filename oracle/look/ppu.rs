@@ -72,6 +72,10 @@ impl Ppu {
         bytes
     }
 
+    pub fn look_vram(&self) -> &[u8; 0x4000] {
+        &self.vram
+    }
+
     pub fn look_mark(&mut self, count: u8) -> std::ops::Range<usize> {
         self.lcd.look_mark(self.scanline, count)
     }

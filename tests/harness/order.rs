@@ -109,8 +109,8 @@ pub fn sentence(bench: &mut Bench) -> Result<(), String> {
     }
     bench.note = format!(
         "yes {}, no {}",
-        crate::spaced(yes),
-        crate::spaced(bench.cases - yes)
+        given::list::spaced(yes),
+        given::list::spaced(bench.cases - yes)
     );
     Ok(())
 }

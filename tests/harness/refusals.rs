@@ -258,7 +258,7 @@ impl Tally {
             .iter()
             .enumerate()
             .filter(|(_, &times)| times > 0)
-            .map(|(number, &times)| format!("{}: {}", number, crate::spaced(times)))
+            .map(|(number, &times)| format!("{}: {}", number, given::list::spaced(times)))
             .collect();
         parts.join(", ")
     }

@@ -61,7 +61,7 @@ pub fn answer(
             (out[0], out[1]) = (t.number, t.selection.count);
             slots.set(t.selection.slots);
         }
-        14 => {
+        14 if q[1] < 10 => {
             let SelectedSprite { sprite, index } = slots.get()[q[1] as usize];
             out[1..6].copy_from_slice(&[index, sprite.y, sprite.x, sprite.tile, sprite.flags]);
         }
@@ -71,7 +71,7 @@ pub fn answer(
             let mode = s.regs.stat % 4;
             out[1..8].copy_from_slice(&[b.line, cycle[0], cycle[1], b.x, mode, end[0], end[1]]);
         }
-        op => panic!("no call {}", op),
+        _ => out[0] = 255,
     }
     out
 }

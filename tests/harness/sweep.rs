@@ -187,8 +187,8 @@ pub fn sweep(bench: &mut Bench) -> Result<(), String> {
     for kind in 0..KINDS.len() {
         sweep.kind(kind, stride)?;
     }
-    let steps = crate::spaced(sweep.steps);
-    sweep.bench.note = format!("of {}, {} steps", crate::spaced(sweep::CASES as u64), steps);
+    let steps = given::list::spaced(sweep.steps);
+    sweep.bench.note = format!("of {}, {} steps", given::list::spaced(sweep::CASES as u64), steps);
     sweep.bench.moved = 0;
     Ok(())
 }

@@ -153,6 +153,6 @@ pub fn sprites(bench: &mut Bench) -> Result<(), String> {
             },
         )?;
     }
-    bench.note = format!("{} start", crate::spaced(started));
+    bench.note = format!("{} start", given::list::spaced(started));
     Ok(())
 }

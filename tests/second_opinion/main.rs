@@ -15,6 +15,7 @@ mod still;
 mod unit;
 
 use causes::CAUSES;
+use list::spaced;
 use scene::{Kind, Scene};
 
 /// A raw colour as this unit stores it (01, "Mix").
@@ -33,14 +34,6 @@ const KINDS: [(Kind, &str); 3] = [
     (Kind::Colour, "colour mode"),
     (Kind::Plain, "colour device outside colour mode"),
 ];
-
-/// A number with its thousands apart.
-fn spaced(number: u64) -> String {
-    match number / 1000 {
-        0 => number.to_string(),
-        more => format!("{},{:03}", spaced(more), number % 1000),
-    }
-}
 
 #[derive(Default)]
 struct Counts {

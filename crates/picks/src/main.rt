@@ -18,57 +18,65 @@ fn answer(request: &[u8]) -> Picked
     sprite::pick(&request[..end], request[end], request[end + 1])
 }
 
-// A space and a byte as a number.
-fn print_next(byte: u8) {
-    io::write_all(STDOUT_FILENO, b" ");
-    io::print_decimal(STDOUT_FILENO, byte as u64);
+// A space and a byte as a number. Each function that prints answers whether it could, and after a failed write prints no more.
+fn print_next(byte: u8) -> bool {
+    io::write_all(STDOUT_FILENO, b" ") && io::print_decimal(STDOUT_FILENO, byte as u64)
 }
 
 // One picked entry as a line: its index, y, x, tile and flags.
-fn print_slot(slot: SelectedSprite) {
+fn print_slot(slot: SelectedSprite) -> bool {
     let sprite = slot.sprite;
-    io::print_decimal(STDOUT_FILENO, slot.index as u64);
-    print_next(sprite.y);
-    print_next(sprite.x);
-    print_next(sprite.tile);
-    print_next(sprite.flags);
-    io::write_all(STDOUT_FILENO, b"\n");
+    io::print_decimal(STDOUT_FILENO, slot.index as u64)
+        && print_next(sprite.y)
+        && print_next(sprite.x)
+        && print_next(sprite.tile)
+        && print_next(sprite.flags)
+        && io::write_all(STDOUT_FILENO, b"\n")
 }
 
 // A word, a number and the line's end.
-fn print_line(word: &[u8], number: u8) {
-    io::write_all(STDOUT_FILENO, word);
-    io::print_decimal(STDOUT_FILENO, number as u64);
-    io::write_all(STDOUT_FILENO, b"\n");
+fn print_line(word: &[u8], number: u8) -> bool {
+    io::write_all(STDOUT_FILENO, word)
+        && io::print_decimal(STDOUT_FILENO, number as u64)
+        && io::write_all(STDOUT_FILENO, b"\n")
 }
 
 // The slots that hold a pick, in order.
-fn print_slots(slots: [SelectedSprite; 10], count: u8) {
+fn print_slots(slots: [SelectedSprite; 10], count: u8) -> bool {
     let held = count as usize;
     for k in 0..10 {
-        if k < held {
-            print_slot(slots[k]);
+        if k < held && !print_slot(slots[k]) {
+            return false;
         }
     }
+    true
 }
 
 // The number of a refusal, or the picks.
-fn print_answer(answer: Picked) {
+fn print_answer(answer: Picked) -> bool {
     if answer.number != 0 {
-        print_line(b"refused ", answer.number);
-        return;
+        return print_line(b"refused ", answer.number);
     }
     let selection = answer.selection;
     let slots = selection.slots;
-    print_line(b"picked ", selection.count);
-    print_slots(slots, selection.count);
+    print_line(b"picked ", selection.count) && print_slots(slots, selection.count)
 }
 
 // A request and one byte more, which tells a longer input from a whole one.
 const INPUT_BYTES: usize = Machine::OAM_BYTES + 3;
 
+// There is no exit status: a failed read or write is said on standard error.
 fn main() {
     let mut input = [0u8; INPUT_BYTES];
     let n = io::read_full(STDIN_FILENO, &mut input);
-    print_answer(answer(&input[..n]));
+    if n < INPUT_BYTES && !wire::is_at_end() {
+        wire::say(
+            b"picks",
+            b": the input could not be read to its end: there is no answer\n",
+        );
+        return;
+    }
+    if !print_answer(answer(&input[..n])) {
+        wire::say(b"picks", b": the answer could not be written to its end\n");
+    }
 }

@@ -180,11 +180,11 @@ fn hidden<'a>(shown: u8, a: &'a [u8], b: &'a [u8]) -> &'a [u8] {
     if shown == 0 { b } else { a }
 }
 
-// The shown picture, the other one, OAM.
-fn pictures<'a>(s: State, oam: &[u8], a: &'a [u8], b: &'a [u8]) -> u64 {
+// The shown picture, the other one, OAM, VRAM.
+fn pictures<'a>(s: State, vram: &[u8], oam: &[u8], a: &'a [u8], b: &'a [u8]) -> u64 {
     let shown = wire::take_all(wire::nothing(), ppu::screen_buffer(s, a, b));
     let both = wire::take_all(shown, hidden(s.beam.shown, a, b));
-    wire::take_all(both, oam)
+    wire::take_all(wire::take_all(both, oam), vram)
 }
 
 // A pick: its slots are kept, empty ones where it is refused.
@@ -271,7 +271,7 @@ pub fn answer(
         1 => start(desk, vram, oam, a, b, q),
         2 => step(desk, vram, oam, a, b, q[1]),
         3 => write_register(desk, a, b, q),
-        11 => digested(desk, pictures(desk.state, oam, a, b)),
+        11 => digested(desk, pictures(desk.state, vram, oam, a, b)),
         _ => small(desk, vram, oam, q),
     }
 }

@@ -5,7 +5,7 @@ ghost use Prim.Native.Nat.{_≤_};
 use desk::Desk;
 use hardware::Machine;
 
-// What is left to do after a buffer of requests.
+// The desk after some requests, and whether to go on.
 struct Step {
     desk: Desk,
     more: bool,
@@ -59,7 +59,30 @@ fn half(
     Step { desk, more }
 }
 
-// Reads a buffer of requests and writes its answers, which fill two. A part of a request at the end of the input is left out.
+// Answers the first `count` requests of a buffer, whose answers fill two.
+fn answer_all(
+    start: Desk,
+    vram: &mut [u8; Machine::VRAM_BYTES],
+    oam: &mut [u8; Machine::OAM_BYTES],
+    a: &mut [u8; Machine::PICTURE_BYTES],
+    b: &mut [u8; Machine::PICTURE_BYTES],
+    requests: &[u8; 65536],
+    count: usize,
+) -> Step
+    requires { ⌜ count ≤ 8192 ⌝ }
+{
+    if count <= 4096 {
+        return half(start, vram, oam, a, b, requests, 0, count);
+    }
+    let begun = half(start, vram, oam, a, b, requests, 0, 4096);
+    if !begun.more {
+        return begun;
+    }
+    let desk = begun.desk;
+    half(desk, vram, oam, a, b, requests, 32768, count - 4096)
+}
+
+// Reads a buffer of requests and writes its answers; what has no answer is said.
 fn turn(
     start: Desk,
     vram: &mut [u8; Machine::VRAM_BYTES],
@@ -68,18 +91,11 @@ fn turn(
     b: &mut [u8; Machine::PICTURE_BYTES],
 ) -> Step {
     let mut requests = io::large_buffer();
-    let count = wire::read_requests(&mut requests);
-    if count <= 4096 {
-        let last = half(start, vram, oam, a, b, &requests, 0, count);
-        let desk = last.desk;
-        return Step { desk, more: false };
-    }
-    let begun = half(start, vram, oam, a, b, &requests, 0, 4096);
-    if !begun.more {
-        return begun;
-    }
-    let desk = begun.desk;
-    half(desk, vram, oam, a, b, &requests, 32768, count - 4096)
+    let arrived = wire::read_requests(&mut requests);
+    let answered = answer_all(start, vram, oam, a, b, &requests, arrived.count);
+    let desk = answered.desk;
+    let more = wire::goes_on(b"replay", arrived, answered.more);
+    Step { desk, more }
 }
 
 // Nothing says that an input ends, so the turns are counted down from a number that no run uses up.

@@ -9,7 +9,7 @@ ghost use Rattle.replay_leaves.specs.Sound.{Sound};
 use bench::Bench;
 use hardware::Machine;
 
-// What is left to do after a buffer of requests.
+// The state after a buffer of requests, and whether to go on.
 struct Step {
     bench: Bench,
     more: bool,
@@ -41,7 +41,7 @@ fn answer_all(
     bench
 }
 
-// Reads a buffer of requests and writes its answers. A part of a request at the end of the input is left out.
+// Reads a buffer of requests and writes its answers; what has no answer is said.
 fn turn(
     start: Bench,
     oam: &mut [u8; Machine::OAM_BYTES],
@@ -53,16 +53,12 @@ fn turn(
 {
     let mut requests = io::large_buffer();
     let mut answers = io::large_buffer();
-    let count = wire::read_requests(&mut requests);
+    let arrived = wire::read_requests(&mut requests);
+    let count = arrived.count;
     let bench = answer_all(start, oam, a, b, &requests, &mut answers, count);
     let written = wire::write_first(&answers, 8 * count);
-    if count == 8192 {
-        return Step {
-            bench,
-            more: written,
-        };
-    }
-    Step { bench, more: false }
+    let more = wire::goes_on(b"replay_leaves", arrived, written);
+    Step { bench, more }
 }
 
 // Nothing says that an input ends, so the turns are counted down from a number that no run uses up.

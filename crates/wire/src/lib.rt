@@ -1,14 +1,95 @@
-// What the programs that answer lists share: requests and answers in buffers, and the FNV-1a digest of 64 bits.
+// What the programs share: requests and answers in buffers, what is said on standard error where a request has no answer, and
+// the FNV-1a digest of 64 bits.
 ghost use Prim.Native.Nat.{_≤_};
+use libc::STDERR_FILENO;
 use libc::STDIN_FILENO;
 use libc::STDOUT_FILENO;
 
-// Fills a buffer from the input, and answers how many whole requests of eight bytes it holds.
-pub fn read_requests(requests: &mut [u8; 65536]) -> usize
-    ensures { λ r. ⌜ r ≤ 8192 ⌝ }
+// What comes after what was read: more, perhaps; nothing, at the end of the input; or a read that failed.
+pub enum Next {
+    More,
+    End,
+    Failure,
+}
+
+// What a read brought: whole requests of eight bytes, the bytes of one that is not whole, and what comes next.
+pub struct Arrived {
+    pub count: usize,
+    pub over: usize,
+    pub next: Next,
+}
+
+// Whether a read that came short came to the end of the input. `io::read_full` stops there and at a failed read alike, so one
+// byte more is asked for: only at the end is the answer 0.
+pub fn is_at_end() -> bool {
+    let mut byte = [0u8; 1];
+    libc::read(STDIN_FILENO, &mut byte) == 0
+}
+
+// What comes after a read of so many bytes: a full buffer says nothing of it.
+fn next_of(got: usize) -> Next {
+    if got == 65536 {
+        return Next::More;
+    }
+    if is_at_end() {
+        return Next::End;
+    }
+    Next::Failure
+}
+
+// Fills a buffer from the input.
+pub fn read_requests(requests: &mut [u8; 65536]) -> Arrived
+    ensures { λ r. ⌜ r .count ≤ 8192 ⌝ }
 {
     let got = io::read_full(STDIN_FILENO, requests);
-    got / 8
+    Arrived {
+        count: got / 8,
+        over: got % 8,
+        next: next_of(got),
+    }
+}
+
+// Says something on standard error, after the program's name. Where that fails too, nothing is left to do.
+pub fn say(program: &[u8], line: &[u8]) {
+    io::write_all(STDERR_FILENO, program);
+    io::write_all(STDERR_FILENO, line);
+}
+
+// Says that a part of a request at the end of the input has no answer.
+fn say_over(program: &[u8], over: usize) {
+    if over == 0 {
+        return;
+    }
+    say(program, b": the input ends within a request, after ");
+    io::print_decimal(STDERR_FILENO, over as u64);
+    io::write_all(STDERR_FILENO, b" of its 8 bytes: it has no answer\n");
+}
+
+// Whether a program goes on after what arrived, its answers written or not. Where it does not, says why a request has no
+// answer: there is no exit status to tell it by.
+pub fn goes_on(program: &[u8], arrived: Arrived, written: bool) -> bool {
+    if !written {
+        say(
+            program,
+            b": an answer could not be written: the answers end before the requests do\n",
+        );
+        return false;
+    }
+    let next = arrived.next;
+    match next {
+        Next::More => true,
+        Next::End => {
+            say_over(program, arrived.over);
+            false
+        }
+        Next::Failure => {
+            say(
+                program,
+                b": the input could not be read to its end: the answers end with the last whole request that came\n",
+            );
+            false
+        }
+    }
 }
 
 // The request at byte i.

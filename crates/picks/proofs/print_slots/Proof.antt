@@ -22,6 +22,9 @@ array-copy-out-print-slot c = omega arith
 print-slot-requires : tie.Need-print-slot-requires Inv-loop μ-loop
 print-slot-requires c κs = tt
 
+returns : tie.Need-returns Inv-loop μ-loop
+returns c = tt
+
 add-k : tie.Need-add-k Inv-loop μ-loop
 add-k c = omega arith
 
@@ -31,8 +34,8 @@ loop-less c = omega arith
 loop-again : tie.Need-loop-again Inv-loop μ-loop
 loop-again c = omega arith
 
-returns : tie.Need-returns Inv-loop μ-loop
-returns c = tt
+returns-2 : tie.Need-returns-2 Inv-loop μ-loop
+returns-2 c = tt
 
 pub print-slots-spec : {M : Type 1} → statement M
 print-slots-spec =
@@ -44,7 +47,8 @@ print-slots-spec =
     mul-print-slot
     array-copy-out-print-slot
     print-slot-requires
+    returns
     add-k
     loop-less
     loop-again
-    returns)
+    returns-2)
