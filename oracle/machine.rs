@@ -13,7 +13,7 @@ pub const REFUSED_ADDRESS: u8 = 4;
 pub const REFUSED_CORRUPTION: u8 = 5;
 
 /// Bit 1 for VBlank, bit 2 for STAT.
-struct Requests(u8);
+pub struct Requests(pub u8);
 
 impl InterruptManager for Requests {
     fn request_interrupt(&mut self, interrupt: InterruptType) {

@@ -1,9 +1,20 @@
 //! One draw, and what it stores in the picture not shown.
 
-use crate::bench::Bench;
+use crate::bench::{Bench, Memory};
 use crate::states;
-use rattle::draw::{draw, Shot};
-use rattle::lcd;
+use rattle::draw::{does_join, prepare, wait};
+use rattle::state::State;
+use rattle::{burst, lcd};
+
+/// A run of one draw. Where nothing joins the pipe, its first half is a cycle of the fetch delay.
+fn draw(s: &mut State, m: &mut Memory) {
+    if !does_join(*s) {
+        assert_eq!(wait(s.pipe), prepare(&m.vram, *s));
+    }
+    let other = lcd::next_buffer_index(s.beam.shown);
+    let picture = if other == 0 { &mut m.a } else { &mut m.b };
+    *s = burst::draw_all(&m.vram, *s, picture, 1);
+}
 
 pub fn draws(bench: &mut Bench) -> Result<(), String> {
     for i in 0..1_000_000 {
@@ -14,14 +25,7 @@ pub fn draws(bench: &mut Bench) -> Result<(), String> {
         bench.compare_after(
             &s,
             |g| g.count = g.count.wrapping_add(g.ppu.part_draw()),
-            |s, m| {
-                let drawn = draw(&m.vram, *s);
-                if let Shot::Place(x, y, rgb) = drawn.shot {
-                    let other = lcd::next_buffer_index(s.beam.shown);
-                    lcd::store(if other == 0 { &mut m.a } else { &mut m.b }, x, y, rgb);
-                }
-                *s = drawn.state;
-            },
+            draw,
         )?;
     }
     bench.compare_memory()

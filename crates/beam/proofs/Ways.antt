@@ -5,8 +5,10 @@ use Prim.Native.Nat.{ℕ, _+_}
 use borrow.Author.Tests.{eqb-true, eqb-false}
 use lib.Dec.{eqb}
 use Rattle.hardware.specs.Screen.{lineCycles, frameLines}
+use Rattle.state.specs.With.{withRegisters, withBeam, withLy}
 use Rattle.state.specs.declared.State.{State}
-use Rattle.beam.specs.Advance.{ends, swaps, inLine, inNextLine, inNextFrame, advanced}
+use Rattle.beam.specs.Advance.{ends, swaps, onward, nextLine, nextFrame, inLine, inNextLine, inNextFrame, advanced}
+use Rattle.beam.specs.Advance.{advancedBeam, advancedRegisters}
 
 -- what holds of each way, with the answer whether it swaps, holds of the advance
 pub advanced-cases : (n : ℕ) (s : State) (P : Bool → State → Type 0)
@@ -22,3 +24,19 @@ advanced-cases n s P within line frame = by (ends n (s .beam)) refl (eqb (s .bea
     by true e true f = frame (eqb-true _ _ e) (eqb-true _ _ f)
     by true e false f = line (eqb-true _ _ e) (eqb-false _ _ f)
     by false e q f = within (eqb-false _ _ e)
+
+-- only the registers and the beam advance
+pub advanced-groups : (n : ℕ) (s : State)
+    → advanced n s ≡ withBeam (withRegisters s (advancedRegisters n (s .regs) (s .beam))) (advancedBeam n (s .beam))
+unfolding advanced advancedBeam
+advanced-groups n s = by (ends n (s .beam)) (eqb (s .beam .line + 1) frameLines)
+  where
+    by : (p q : Bool)
+        → cond p (cond q (inNextFrame s) (inNextLine s)) (inLine n s)
+        ≡ withBeam
+        (withRegisters s
+        (cond p (withLy (s .regs) (cond p (cond q (nextFrame (s .beam)) (nextLine (s .beam))) (onward n (s .beam)) .line)) (s .regs)))
+        (cond p (cond q (nextFrame (s .beam)) (nextLine (s .beam))) (onward n (s .beam)))
+    by true true = refl
+    by true false = refl
+    by false q = refl

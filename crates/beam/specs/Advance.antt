@@ -5,6 +5,7 @@ use lib.Dec.{eqb}
 use Rattle.hardware.specs.Screen.{lineCycles, frameLines, places}
 use Rattle.lcd.specs.Pictures.{other}
 use Rattle.state.specs.With.{withRegisters, withBeam, withLy, withPlace, withX, withShown, withCount, withTurned}
+use Rattle.state.specs.declared.Registers.{Registers}
 use Rattle.state.specs.declared.Beam.{Beam}
 use Rattle.state.specs.declared.State.{State}
 
@@ -49,3 +50,10 @@ advanced n s =
 -- the whole mark: yes at a swap with every place stored
 unfoldable pub whole : ℕ → Beam → Bool
 whole n b = swaps n b && eqb (b .count) places
+
+-- what the advance leaves in the beam, and in the registers
+unfoldable pub advancedBeam : ℕ → Beam → Beam
+advancedBeam n b = cond (ends n b) (cond (eqb (b .line + 1) frameLines) (nextFrame b) (nextLine b)) (onward n b)
+
+abbrev pub advancedRegisters : ℕ → Registers → Beam → Registers
+advancedRegisters n r b = cond (ends n b) (withLy r (advancedBeam n b .line)) r

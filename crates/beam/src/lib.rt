@@ -2,10 +2,10 @@
 ghost use mathlib.Core.Path.{_≡_};
 ghost use Prim.Native.Nat.{_<_, _≤_, _+_};
 ghost use Rattle.hardware.specs.Screen.{lineCycles, frameLines};
-ghost use Rattle.beam.specs.Advance.{swaps, onward, nextLine, nextFrame, atLine, advanced, whole};
+ghost use Rattle.beam.specs.Advance.{swaps, onward, nextLine, nextFrame, advancedBeam, advancedRegisters, whole};
 use hardware::Machine;
 use state::Beam;
-use state::State;
+use state::Registers;
 
 // The beam further in its line.
 fn onward_by(b: Beam, cycles: u8) -> Beam
@@ -48,16 +48,6 @@ fn next_frame(b: Beam) -> Beam
     n
 }
 
-// The state on a new line.
-fn at_line(s: State, b: Beam) -> State
-    ensures { λ n. ⌜ n ≡ atLine s b ⌝ }
-{
-    let mut n = s;
-    n.regs.ly = b.line;
-    n.beam = b;
-    n
-}
-
 // Whether a step ends the frame.
 pub fn does_swap(b: Beam, cycles: u8) -> bool
     requires { ⌜ (b .cycle + cycles ≤ lineCycles) × (b .line < frameLines) ⌝ }
@@ -81,18 +71,29 @@ pub fn is_whole(b: Beam, cycles: u8) -> bool
 }
 
 // The cycle advances; at 456 the next line, after line 153 the next frame.
-pub fn advance(s: State, cycles: u8) -> State
-    requires { ⌜ (s .beam .cycle + cycles ≤ lineCycles) × (s .beam .line < frameLines) × (s .beam .shown ≤ 1) ⌝ }
-    ensures { λ n. ⌜ n ≡ advanced cycles s ⌝ }
+pub fn advance(b: Beam, cycles: u8) -> Beam
+    requires { ⌜ (b .cycle + cycles ≤ lineCycles) × (b .line < frameLines) × (b .shown ≤ 1) ⌝ }
+    ensures { λ n. ⌜ n ≡ advancedBeam cycles b ⌝ }
 {
-    if s.beam.cycle + cycles as u16 != Machine::LINE_CYCLES {
-        let beam = onward_by(s.beam, cycles);
-        let mut n = s;
-        n.beam = beam;
-        return n;
+    if b.cycle + cycles as u16 != Machine::LINE_CYCLES {
+        return onward_by(b, cycles);
     }
-    if s.beam.line + 1 == Machine::FRAME_LINES {
-        return at_line(s, next_frame(s.beam));
+    if b.line + 1 == Machine::FRAME_LINES {
+        return next_frame(b);
     }
-    at_line(s, next_line(s.beam))
+    next_line(b)
+}
+
+// The registers where the cycle advances: a new line sets LY.
+pub fn advance_registers(r: Registers, b: Beam, cycles: u8) -> Registers
+    requires { ⌜ (b .cycle + cycles ≤ lineCycles) × (b .line < frameLines) × (b .shown ≤ 1) ⌝ }
+    ensures { λ n. ⌜ n ≡ advancedRegisters cycles r b ⌝ }
+{
+    if b.cycle + cycles as u16 != Machine::LINE_CYCLES {
+        return r;
+    }
+    let next = advance(b, cycles);
+    let mut n = r;
+    n.ly = next.line;
+    n
 }

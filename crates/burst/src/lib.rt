@@ -30,7 +30,14 @@ pub fn draw_all(vram: &[u8], s: State, picture: &mut [u8], cycles: u8) -> State
         if state.regs.stat % 4 != 3 {
             return state;
         }
-        let drawn = draw::draw(vram, state);
+        if draw::does_join(state) {
+            let pipe = draw::prepare(vram, state);
+            state.pipe = pipe;
+        } else {
+            let pipe = draw::wait(state.pipe);
+            state.pipe = pipe;
+        }
+        let drawn = draw::draw(state);
         let shot = drawn.shot;
         store_shot(picture, shot);
         let next = drawn.state;

@@ -3,3 +3,5 @@
 pub mod Ways
 -- the parts of a draw keep a state in order
 pub mod Fine
+-- its two halves
+pub mod Halves

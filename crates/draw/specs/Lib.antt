@@ -1,2 +1,3 @@
 -- What the contracts of `draw` cite.
 pub mod Draw
+pub mod Halves

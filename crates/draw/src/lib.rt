@@ -1,20 +1,27 @@
 // One draw: the pipe goes on, then a discard or a pixel, and the end of a line. It touches no picture.
+//
+// It stands in two halves, so that few bytes move: `prepare` changes the queues, and is called only where something joins them;
+// `draw` lets the front leave, and takes over only what that can change, which no slot of a queue is.
 ghost use mathlib.Core.Path.{_≡_};
-ghost use Prim.Native.Nat.{_<_};
+ghost use Prim.Native.Nat.{_<_, _≤_};
 ghost use lib.ListN.{length};
 ghost use Rattle.hardware.specs.Screen.{width};
 ghost use Rattle.hardware.specs.Tables.{vramBytes};
-ghost use Rattle.order.specs.Fine.{Fine};
+ghost use Rattle.order.specs.Fine.{PipeFine};
+ghost use Rattle.state.specs.With.{withFetcher};
 ghost use Rattle.pipe.specs.Window.{opened};
-ghost use Rattle.draw.specs.Draw.{Drawable, spot, fedPipe, discarded, moved, endedBeam, endedRegisters, endedPipe};
-ghost use Rattle.draw.specs.Draw.{afterPixel, pixelDrawn, shifted, drawn};
+ghost use Rattle.pipe.specs.Fetching.{waited};
+ghost use Rattle.draw.specs.Draw.{Drawable, spot, fedPipe, discarded, moved, endedBeam, endedRegisters, endedPipe, afterPixel};
+ghost use Rattle.draw.specs.Halves.{waits, joins, prepared, frontDrawn, leaves, pipeTakenOver, takenOver};
 use hardware::Machine;
 use lcd::Rgb;
 use state::Beam;
+use state::Fetcher;
 use state::Pipe;
 use state::Registers;
 use state::Spot;
 use state::State;
+use state::Waiting;
 
 // What a draw answers besides the state: a place, by column and line, with its three bytes, or nothing.
 pub enum Shot {
@@ -22,6 +29,7 @@ pub enum Shot {
     Nothing,
 }
 
+// The state after a draw, and what it answered.
 pub struct Drawn {
     pub state: State,
     pub shot: Shot,
@@ -133,14 +141,72 @@ fn after_pixel(s: State, p: Pipe) -> State
     n
 }
 
-// A pixel: the sprites that start here, both queues pop, and the mixer's colour at its place.
-fn draw_pixel(vram: &[u8], s: State, p: Pipe) -> Drawn
-    requires { ⌜ Drawable (now vram) s p × (0 < p .bg .len) ⌝ }
-    ensures { λ d. ⌜ d ≡ pixelDrawn (now (vram .entry)) s p ⌝ }
+// Whether the fetched row waits for the background queue.
+fn does_wait(f: Fetcher) -> bool
+    ensures { λ r. ⌜ r ≡ waits (f .waiting) ⌝ }
 {
-    let queue = pixel::add_sprites(vram, s.regs, s.palettes.obj, s.selection, spot_of(s), p.obj);
+    let waiting = f.waiting;
+    match waiting {
+        Waiting::Row(_) => true,
+        Waiting::Nothing => false,
+    }
+}
+
+// Whether something may join the pipe in a draw: else its first half is one cycle of the fetch delay.
+pub fn does_join(s: State) -> bool
+    requires { ⌜ s .selection .count ≤ 10 ⌝ }
+    ensures { λ r. ⌜ r ≡ joins s ⌝ }
+{
+    let allowed = pipe::is_open(s.regs, s.beam.line);
+    if pipe::does_enter(allowed, s.pipe.window, s.beam.x, s.regs.wx) {
+        return true;
+    }
+    if s.pipe.fetcher.delay <= 1 {
+        return true;
+    }
+    if s.pipe.bg.len <= 8 {
+        return does_wait(s.pipe.fetcher);
+    }
+    !pixel::does_none_start(s.selection, s.beam.x)
+}
+
+// The first half: the pipe goes on, and where a pixel is given the sprites that start here join.
+pub fn prepare(vram: &[u8], s: State) -> Pipe
+    requires { ⌜ Drawable (now vram) s (s .pipe) ⌝ }
+    ensures { λ n. ⌜ n ≡ prepared (now (vram .entry)) s ⌝ }
+{
+    let p = advance(vram, s);
+    if p.bg.len <= 8 {
+        return p;
+    }
+    if p.discard != 0 {
+        return p;
+    }
+    let obj = pixel::add_sprites(vram, s.regs, s.palettes.obj, s.selection, spot_of(s), p.obj);
+    let mut n = p;
+    n.obj = obj;
+    n
+}
+
+// The first half where nothing joins: the fetch delay goes down by one.
+pub fn wait(p: Pipe) -> Pipe
+    requires { ⌜ 0 < p .fetcher .delay ⌝ }
+    ensures { λ n. ⌜ n ≡ withFetcher p (waited (p .fetcher)) ⌝ }
+{
+    let delay = p.fetcher.delay - 1;
+    let mut n = p;
+    n.fetcher.delay = delay;
+    n
+}
+
+// A pixel: both queues pop, and the mixer's colour at its place.
+fn draw_pixel(s: State) -> Drawn
+    requires { ⌜ (s .beam .x < width) × PipeFine (s .pipe) × (0 < s .pipe .bg .len) ⌝ }
+    ensures { λ d. ⌜ d ≡ frontDrawn s ⌝ }
+{
+    let p = s.pipe;
     let front = p.bg.pop();
-    let sprite = queue.pop();
+    let sprite = p.obj.pop();
     let answer = sprite.answer;
     let color = pixel::mixer(s.regs, front.pixel, answer);
     let bg = front.fifo;
@@ -156,22 +222,21 @@ fn draw_pixel(vram: &[u8], s: State, p: Pipe) -> Drawn
 }
 
 // More than 8 queued: a discard or a pixel; else nothing.
-fn shift(vram: &[u8], s: State, p: Pipe) -> Drawn
-    requires { ⌜ Drawable (now vram) s p ⌝ }
-    ensures { λ d. ⌜ d ≡ shifted (now (vram .entry)) s p ⌝ }
+fn shift(s: State) -> Drawn
+    requires { ⌜ (s .beam .x < width) × PipeFine (s .pipe) ⌝ }
+    ensures { λ d. ⌜ d ≡ leaves s ⌝ }
 {
-    let mut n = s;
-    if p.bg.len <= 8 {
-        n.pipe = p;
+    if s.pipe.bg.len <= 8 {
         return Drawn {
-            state: n,
+            state: s,
             shot: Shot::Nothing,
         };
     }
-    if p.discard == 0 {
-        return draw_pixel(vram, s, p);
+    if s.pipe.discard == 0 {
+        return draw_pixel(s);
     }
-    let pipe = discard_one(p);
+    let pipe = discard_one(s.pipe);
+    let mut n = s;
     n.pipe = pipe;
     Drawn {
         state: n,
@@ -179,11 +244,42 @@ fn shift(vram: &[u8], s: State, p: Pipe) -> Drawn
     }
 }
 
-// One draw: the next state, and a place with its bytes or nothing.
-pub fn draw(vram: &[u8], s: State) -> Drawn
-    requires { ⌜ (length (now vram) ≡ vramBytes) × Fine s ⌝ }
-    ensures { λ d. ⌜ d ≡ drawn (now (vram .entry)) s ⌝ }
+// A pipe with what the second half can change taken over from another: the slots of the queues stay where they are.
+fn take_over_pipe(p: Pipe, q: Pipe) -> Pipe
+    ensures { λ n. ⌜ n ≡ pipeTakenOver p q ⌝ }
 {
-    let p = advance(vram, s);
-    shift(vram, s, p)
+    let mut n = p;
+    n.fetcher.column = q.fetcher.column;
+    n.bg.head = q.bg.head;
+    n.bg.len = q.bg.len;
+    n.obj.head = q.obj.head;
+    n.obj.len = q.obj.len;
+    n.window = q.window;
+    n.wrow = q.wrow;
+    n.discard = q.discard;
+    n
+}
+
+// A state with what the second half can change taken over from another.
+fn take_over(s: State, t: State) -> State
+    ensures { λ n. ⌜ n ≡ takenOver s t ⌝ }
+{
+    let pipe = take_over_pipe(s.pipe, t.pipe);
+    let beam = t.beam;
+    let mut n = s;
+    n.regs.stat = t.regs.stat;
+    n.pipe = pipe;
+    n.beam = beam;
+    n
+}
+
+// The second half, of a pipe that is ready: the next state, and a place with its bytes or nothing.
+pub fn draw(s: State) -> Drawn
+    requires { ⌜ (s .beam .x < width) × PipeFine (s .pipe) ⌝ }
+    ensures { λ d. ⌜ d ≡ leaves s ⌝ }
+{
+    let shifted = shift(s);
+    let shot = shifted.shot;
+    let state = take_over(s, shifted.state);
+    Drawn { state, shot }
 }

@@ -5,18 +5,19 @@ ghost use Rattle.fifo.specs.Background.{bgFresh, bgRow, bgPushed, bgPopp
 ghost use Rattle.fifo.specs.Sprites.{spriteFresh, inked, over, inkedRow, spritePushed, spritePopped, spriteCleared};
 use colors::ColorPalette;
 
-// A background pixel: its colour number, the palette of its tile, and whether the tile stands above sprites.
+// A background pixel: the palette of its tile, its colour number, and whether the tile stands above sprites. The palette stands
+// first, so that a slot has no gap.
 pub struct BgFifoPixel {
-    pub color: u8,
     pub palette: ColorPalette,
+    pub color: u8,
     pub priority: bool,
 }
 
-// A sprite pixel: its colour number, its palette, whether that is OBP0 or OBP1 outside colour mode, its place in OAM, and
-// whether it stands behind.
+// A sprite pixel: its palette, its colour number, whether the palette is OBP0 or OBP1 outside colour mode, its place in OAM,
+// and whether it stands behind.
 pub struct SpriteFifoPixel {
-    pub color: u8,
     pub palette: ColorPalette,
+    pub color: u8,
     pub obp: u8,
     pub index: u8,
     pub priority: bool,

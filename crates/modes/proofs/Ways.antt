@@ -1,10 +1,10 @@
 -- The ways of a mode that begins and of the search: what holds of each result holds of the part.
 use mathlib.Core.Path.{_≡_, refl}
-use mathlib.Core.Bool.{Bool, true, false, not, _&&_, _||_}
+use mathlib.Core.Bool.{Bool, true, false, not, _&&_, _||_, and-false, or-true}
 use mathlib.Core.List.{List}
 use Prim.Native.Nat.{ℕ, _≤_, _<_}
 use native.Mathlib.Omega.{arith}
-use borrow.Author.Tests.{eqb-true, ltb-true, eq-eqb, lt-ltb}
+use borrow.Author.Tests.{eqb-true, ltb-true, eq-eqb, ne-eqb, lt-ltb}
 use lib.Dec.{eqb, ltb}
 use Rattle.logic.proofs.Tests.{by-test, clash}
 use Rattle.logic.proofs.Both.{both, first, split}
@@ -12,7 +12,7 @@ use Rattle.hardware.specs.Screen.{height}
 use Rattle.state.specs.With.{modeOf}
 use Rattle.state.specs.declared.Beam.{Beam}
 use Rattle.state.specs.declared.State.{State}
-use Rattle.modes.specs.Modes.{stands, scans, renders, rests, scanned, rendered, rested, entered, selected, searched}
+use Rattle.modes.specs.Modes.{stands, begins, scans, renders, rests, scanned, rendered, rested, entered, selected, searched}
 
 -- where mode 2 begins, and that it does
 scans-at : (b : Beam) → scans b ≡ true → (b .line < height) × (b .cycle ≤ 4)
@@ -64,3 +64,33 @@ pub searched-cases : (P : State → Type 0) (oam : List ℕ) (s : State) → P (
 unfolding searched
 searched-cases P oam s found same =
     by-test P (eqb (modeOf (s .regs .stat)) 2 && eqb (s .beam .cycle) 4) (λ e. found) (λ e. same)
+
+-- where no mode can begin the state stays, and no line is searched
+module _ (s : State) (none : begins (s .beam) ≡ false) where
+  away : (k : ℕ) → (eqb (s .beam .cycle) k ≡ true → begins (s .beam) ≡ true) → s .beam .cycle ≡ k → ⊥
+  away k h e = clash (h (eq-eqb _ _ e)) none
+
+  away-0 : s .beam .cycle ≡ 0 → ⊥
+  away-0 = away 0 (λ e. rw (e, or-true, or-true) refl)
+
+  away-4 : s .beam .cycle ≡ 4 → ⊥
+  away-4 = away 4 (λ e. rw (e, or-true) refl)
+
+  away-80 : s .beam .cycle ≡ 80 → ⊥
+  away-80 = away 80 (λ e. rw e refl)
+
+  scans-none : scans (s .beam) ≡ false
+  unfolding scans
+  scans-none = rw (ne-eqb _ _ away-0, ne-eqb _ _ away-4, and-false, and-false) refl
+
+  renders-none : renders (s .beam) ≡ false
+  unfolding renders
+  renders-none = rw (ne-eqb _ _ away-80, and-false) refl
+
+  pub entered-none : entered s ≡ s
+  unfolding entered
+  entered-none = rw (scans-none, renders-none, ne-eqb _ _ away-4, and-false)
+
+  pub searched-none : (oam : List ℕ) → searched oam s ≡ s
+  unfolding searched
+  searched-none oam = rw (ne-eqb _ _ away-4, and-false)

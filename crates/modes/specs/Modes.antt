@@ -9,6 +9,7 @@ use Rattle.sprite.specs.Pick.{selection}
 use Rattle.pixel.specs.Sprites.{tallOf}
 use Rattle.state.specs.With.{modeOf, withMode, withCoincidence, withRegisters, withSelection, withPipe, withBeam, withStat}
 use Rattle.state.specs.With.{withLy, withDelay, withFetcher, withWindowRow, withDiscard, withEnd, withLevel}
+use Rattle.state.specs.declared.Registers.{Registers}
 use Rattle.state.specs.declared.Pipe.{Pipe}
 use Rattle.state.specs.declared.Beam.{Beam}
 use Rattle.state.specs.declared.State.{State}
@@ -28,6 +29,10 @@ renders b = ltb (b .line) height && eqb (b .cycle) 80
 -- (144,4) mode 1
 abbrev pub rests : Beam → Bool
 rests b = stands b height 4
+
+-- at no other cycle does a mode begin, nor is a line searched
+abbrev pub begins : Beam → Bool
+begins b = eqb (b .cycle) 80 || (eqb (b .cycle) 4 || eqb (b .cycle) 0)
 
 -- mode 2 begins: the pipe stays
 abbrev pub scanning : Pipe → Pipe
@@ -105,3 +110,8 @@ unfoldable pub compared : Bool → State → State
 compared level s =
     withBeam (withRegisters s (withLy (withStat (s .regs) (withCoincidence (s .regs .stat) (coincides s))) (lyAfter s)))
     (withLevel (s .beam) level)
+
+-- what the comparison leaves in the registers
+abbrev pub comparedRegisters : Registers → Beam → Registers
+comparedRegisters r b =
+    withLy (withStat r (withCoincidence (r .stat) (eqb (r .ly) (r .lyc)))) (cond (stands b lastLine 4) 0 (r .ly))

@@ -4,11 +4,12 @@ ghost use Prim.Native.Nat.{_<_};
 ghost use lib.ListN.{length};
 ghost use Rattle.hardware.specs.Tables.{oamBytes};
 ghost use Rattle.state.specs.With.{withMode, withCoincidence};
-ghost use Rattle.modes.specs.Modes.{stands, scans, renders, inMode, scanning, rendering, resting, entered, searched};
-ghost use Rattle.modes.specs.Modes.{restLevel, scanAsks, scanLevel, modeLevel, earlyLevel, levelOf, compared};
+ghost use Rattle.modes.specs.Modes.{stands, begins, scans, renders, inMode, scanning, rendering, resting, entered, searched};
+ghost use Rattle.modes.specs.Modes.{restLevel, scanAsks, scanLevel, modeLevel, earlyLevel, levelOf, comparedRegisters};
 use hardware::Machine;
 use state::Beam;
 use state::Pipe;
+use state::Registers;
 use state::State;
 
 // Whether the beam stands at a line and a cycle.
@@ -19,6 +20,19 @@ pub fn stands_at(b: Beam, line: u8, cycle: u16) -> bool
         return false;
     }
     b.cycle == cycle
+}
+
+// Whether a mode can begin here, or a line be searched: else neither is tried.
+pub fn can_begin(b: Beam) -> bool
+    ensures { λ r. ⌜ r ≡ begins b ⌝ }
+{
+    if b.cycle == 80 {
+        return true;
+    }
+    if b.cycle == 4 {
+        return true;
+    }
+    b.cycle == 0
 }
 
 // Whether mode 2 begins.
@@ -231,17 +245,16 @@ fn with_coincidence(stat: u8, set: bool) -> u8
     stat / 8 * 8 + stat % 4
 }
 
-// The state that knows the coincidence and the level; at (153,4) LY becomes 0.
-pub fn compare(level: bool, s: State) -> State
-    requires { ⌜ s .regs .stat < 128 ⌝ }
-    ensures { λ n. ⌜ n ≡ compared level s ⌝ }
+// The registers that know the coincidence; at (153,4) LY becomes 0.
+pub fn compare(r: Registers, b: Beam) -> Registers
+    requires { ⌜ r .stat < 128 ⌝ }
+    ensures { λ n. ⌜ n ≡ comparedRegisters r b ⌝ }
 {
-    let stat = with_coincidence(s.regs.stat, s.regs.ly == s.regs.lyc);
-    let mut n = s;
-    n.regs.stat = stat;
-    n.beam.level = level;
-    if stands_at(s.beam, Machine::LAST_LINE, 4) {
-        n.regs.ly = 0;
+    let stat = with_coincidence(r.stat, r.ly == r.lyc);
+    let mut n = r;
+    n.stat = stat;
+    if stands_at(b, Machine::LAST_LINE, 4) {
+        n.ly = 0;
         return n;
     }
     n

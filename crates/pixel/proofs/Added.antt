@@ -5,7 +5,7 @@ use mathlib.Core.Bool.{Bool, true, _&&_}
 use mathlib.Core.List.{List, [], _∷_}
 use Prim.Native.Nat.{ℕ, _≤_}
 use native.Mathlib.Omega.{arith}
-use borrow.Author.Tests.{le-leb, leb-true}
+use borrow.Author.Tests.{le-leb, leb-true, not-true}
 use lib.Dec.{leb}
 use lib.ListN.{length, take}
 use Rattle.logic.specs.Every.{every}
@@ -29,7 +29,7 @@ use Rattle.state.specs.declared.Spot.{Spot}
 use Rattle.order.specs.Order.{slotOrder, spritePixelOrder}
 use Rattle.order.specs.Fine.{SelectionFine, SpriteFine}
 use Rattle.pixel.specs.Mixer.{wins, winner, Coloured, WinnerColoured}
-use Rattle.pixel.specs.Sprites.{tallOf, inkOf, pixelsOf, spriteAdded, allAdded, spritesAdded}
+use Rattle.pixel.specs.Sprites.{tallOf, inkOf, pixelsOf, spriteAdded, allAdded, spritesAdded, elsewhere, noneStarts}
 
 -- a pixel popped off a queue in order has a colour number
 pub popped-coloured : (q : SpriteFifo) → every spritePixelOrder (spriteQueued q) ≡ true → Coloured (spritePopped q .answer)
@@ -104,3 +104,15 @@ module _ (vram : List ℕ) (r : Registers) (palettes : List ℕ) (at : Spot) whe
   -- the selected sprites: a queue in order stays in order
   pub sprites-fine : {l : Selection} {q : SpriteFifo} → SelectionFine l → SpriteFine q → SpriteFine (spritesAdded vram r palettes l at q)
   sprites-fine {l} {q} selected f = sprites-keep SpriteFine slotOrder added-fine l q (selected .indexes) f
+
+-- where no selected sprite starts the queue stays
+module _ (vram : List ℕ) (r : Registers) (palettes : List ℕ) (at : Spot) where
+  none-added : (l : List SelectedSprite) (q : SpriteFifo) → every (elsewhere (at .x)) l ≡ true → allAdded vram r palettes at q l ≡ q
+  unfolding every allAdded spriteAdded
+  none-added [] q e = refl
+  none-added (s ∷ rest) q e =
+      let away = not-true (startsAt (s .sprite) (at .x)) (first (elsewhere (at .x) s) _ e) in rw away (none-added rest q (second (elsewhere (at .x) s) _ e))
+
+  pub sprites-none : (l : Selection) (q : SpriteFifo) → noneStarts l (at .x) ≡ true → spritesAdded vram r palettes l at q ≡ q
+  unfolding spritesAdded
+  sprites-none l q e = by-test (λ (n : SpriteFifo). n ≡ q) (bitAt (r .lcdc) 1) (λ on. none-added (take (l .count) (l .slots)) q e) (λ off. refl)

@@ -1,8 +1,9 @@
 -- 01, "One draw": the selected sprites that start at a place, laid into the sprite queue one after the other.
 use Prim.Native.Nat.{ℕ}
-use mathlib.Core.Bool.{Bool, cond}
+use mathlib.Core.Bool.{Bool, not, cond}
 use mathlib.Core.List.{List, [], _∷_}
 use lib.ListN.{take}
+use Rattle.logic.specs.Every.{every}
 use Rattle.wrap.specs.Wrap.{bitAt}
 use Rattle.colors.specs.Palettes.{palette}
 use Rattle.sprite.specs.Oam.{greyPalette, colourPalette, behind}
@@ -53,3 +54,10 @@ allAdded vram r palettes at q (s ∷ rest) = allAdded vram r palettes at (sprite
 unfoldable pub spritesAdded : List ℕ → Registers → List ℕ → Selection → Spot → SpriteFifo → SpriteFifo
 spritesAdded vram r palettes l at q =
     cond (bitAt (r .lcdc) 1) (allAdded vram r palettes at q (take (l .count) (l .slots))) q
+
+-- no selected sprite starts at a column
+abbrev pub elsewhere : ℕ → SelectedSprite → Bool
+elsewhere x s = not (startsAt (s .sprite) x)
+
+abbrev pub noneStarts : Selection → ℕ → Bool
+noneStarts l x = every (elsewhere x) (take (l .count) (l .slots))

@@ -3,7 +3,7 @@ ghost use mathlib.Core.Path.{_≡_};
 ghost use Prim.Native.Nat.{_<_, _≤_};
 ghost use lib.ListN.{length};
 ghost use Rattle.hardware.specs.Tables.{vramBytes};
-ghost use Rattle.pixel.specs.Sprites.{tallOf, selector, inkOf, spriteAdded, spritesAdded};
+ghost use Rattle.pixel.specs.Sprites.{tallOf, selector, inkOf, noneStarts, spriteAdded, spritesAdded};
 ghost use Rattle.pixel.specs.Mixer.{wins, winner, passed, bgColour, spriteColour, winnerColour, seen};
 ghost use Rattle.pixel.specs.Mixer.{Coloured, WinnerColoured};
 use colors::Color;
@@ -69,6 +69,24 @@ pub fn add_sprite(
     let colors = tiles::sprite_colors(vram, s.sprite, at.line, tall_of(r.lcdc), at.x);
     let ink = ink_of(r, palettes, s);
     q.push(colors, ink, r.coord)
+}
+
+// Whether no selected sprite starts at column x.
+pub fn does_none_start(l: Selection, x: u8) -> bool
+    requires { ⌜ l .count ≤ 10 ⌝ }
+    ensures { λ b. ⌜ b ≡ noneStarts l x ⌝ }
+{
+    let count = l.count as usize;
+    let slots = l.slots;
+    let mut i = 0;
+    while i < count {
+        let slot = slots[i];
+        if tiles::starts_at(slot.sprite, x) {
+            return false;
+        }
+        i += 1;
+    }
+    true
 }
 
 // The sprite queue after the selected sprites that start at the place, if sprites are drawn.

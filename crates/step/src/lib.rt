@@ -7,9 +7,12 @@ ghost use Rattle.hardware.specs.Screen.{lineCycles, frameLines};
 ghost use Rattle.hardware.specs.Tables.{vramBytes, tables};
 ghost use Rattle.lcd.specs.Pictures.{pictures, PicturesSized};
 ghost use Rattle.order.specs.Fine.{Fine};
-ghost use Rattle.step.specs.Step.{requests, reportOf, offReport, StepTaken};
-ghost use Rattle.step.specs.Work.{Steppable, Worked, Settled};
+ghost use Rattle.step.specs.Step.{offReport, StepTaken};
+ghost use Rattle.step.specs.Work.{Steppable, Worked};
+ghost use Rattle.step.specs.End.{starting, drawing, requestsBy, reportBy, levelled, ended};
 use hardware::Machine;
+use state::Beam;
+use state::Registers;
 use state::State;
 
 // What a step answers: 01's request bits (1 VBlank, 2 STAT), the mode, the coincidence, LY, whether it swapped, whether the
@@ -30,6 +33,13 @@ pub struct Stepped {
     pub state: State,
 }
 
+// The end of a step: what it answers, and the two groups that it changes.
+pub struct Ended {
+    pub report: Report,
+    pub regs: Registers,
+    pub beam: Beam,
+}
+
 // The draws of the step, into the picture that is not shown.
 fn draw_hidden(vram: &[u8], s: State, a: &mut [u8], b: &mut [u8], cycles: u8) -> State
     requires { ⌜ (length (now vram) ≡ vramBytes) × PicturesSized (pictures (now a) (now b)) × Fine s ⌝ }
@@ -42,17 +52,24 @@ fn draw_hidden(vram: &[u8], s: State, a: &mut [u8], b: &mut [u8], cycles: u8) ->
     burst::draw_all(vram, s, a, cycles)
 }
 
-// The step up to the point where the cycle advances.
-fn settle(s: State, vram: &[u8], oam: &[u8], a: &mut [u8], b: &mut [u8], cycles: u8) -> State
-    requires { ⌜ Steppable (tables (now vram) (now oam)) (pictures (now a) (now b)) s ⌝ }
-    ensures { λ n. ⌜ Settled cycles (tables (now (vram .entry)) (now (oam .entry))) s
-        (pictures (now (a .entry)) (now (b .entry))) n (pictures (now (a .exit)) (now (b .exit))) ⌝ }
+// Whether a mode may begin in a step, or a line be searched.
+fn may_begin(s: State) -> bool
+    ensures { λ r. ⌜ r ≡ starting s ⌝ }
 {
-    let held = modes::enter_mode(s);
-    let ready = modes::search(oam, held);
-    let worked = draw_hidden(vram, ready, a, b, cycles);
-    let level = modes::level_of(modes::mode_level(held), worked);
-    modes::compare(level, worked)
+    if !wrap::bit(s.regs.lcdc, 7) {
+        return false;
+    }
+    modes::can_begin(s.beam)
+}
+
+// Whether a step draws.
+fn does_draw(s: State) -> bool
+    ensures { λ r. ⌜ r ≡ drawing s ⌝ }
+{
+    if !wrap::bit(s.regs.lcdc, 7) {
+        return false;
+    }
+    s.regs.stat % 4 == 3
 }
 
 // Whether the level rose.
@@ -66,11 +83,11 @@ fn rises(old: bool, new: bool) -> bool
 }
 
 // The request bits: VBlank at (144,4), STAT if the level rose.
-fn requests_of(s: State, t: State) -> u8
-    ensures { λ r. ⌜ r ≡ requests s t ⌝ }
+fn requests_of(b: Beam, t: Beam) -> u8
+    ensures { λ r. ⌜ r ≡ requestsBy b t ⌝ }
 {
-    let vblank = modes::stands_at(s.beam, Machine::VBLANK_LINE, 4);
-    if rises(s.beam.level, t.beam.level) {
+    let vblank = modes::stands_at(b, Machine::VBLANK_LINE, 4);
+    if rises(b.level, t.level) {
         if vblank {
             return 3;
         }
@@ -82,19 +99,19 @@ fn requests_of(s: State, t: State) -> u8
     0
 }
 
-// What a step answers, from the states before it, before the cycle advances, and after it.
-fn report_of(s: State, t: State, u: State, cycles: u8) -> Report
-    requires { ⌜ (t .beam .cycle + cycles ≤ lineCycles) × (t .beam .line < frameLines) ⌝ }
-    ensures { λ r. ⌜ r ≡ reportOf cycles s t u ⌝ }
+// What a step answers, from the beam before it, the one that knows the level, and the registers after it.
+fn report_of(b: Beam, t: Beam, r: Registers, cycles: u8) -> Report
+    requires { ⌜ (t .cycle + cycles ≤ lineCycles) × (t .line < frameLines) ⌝ }
+    ensures { λ n. ⌜ n ≡ reportBy cycles b t r ⌝ }
 {
     Report {
-        requests: requests_of(s, t),
-        mode: u.regs.stat % 4,
-        coincidence: wrap::bit(u.regs.stat, 2),
-        ly: u.regs.ly,
-        swapped: beam::does_swap(t.beam, cycles),
-        whole: beam::is_whole(t.beam, cycles),
-        count: t.beam.count,
+        requests: requests_of(b, t),
+        mode: r.stat % 4,
+        coincidence: wrap::bit(r.stat, 2),
+        ly: r.ly,
+        swapped: beam::does_swap(t, cycles),
+        whole: beam::is_whole(t, cycles),
+        count: t.count,
     }
 }
 
@@ -113,18 +130,56 @@ fn off_report(s: State) -> Report
     }
 }
 
+// The beam that knows the level.
+fn level_beam(held: bool, w: State) -> Beam
+    ensures { λ n. ⌜ n ≡ levelled held w ⌝ }
+{
+    let level = modes::level_of(held, w);
+    let mut n = w.beam;
+    n.level = level;
+    n
+}
+
+// The end of a step while the display is on, from the beam before it, the level by the mode held and the worked state: the level,
+// the comparison, and the cycle that advances.
+fn finish(before: Beam, held: bool, w: State, cycles: u8) -> Ended
+    requires { ⌜ Fine w × (w .beam .cycle + cycles ≤ lineCycles) ⌝ }
+    ensures { λ n. ⌜ n ≡ ended cycles before held w ⌝ }
+{
+    let settled = level_beam(held, w);
+    let compared = modes::compare(w.regs, w.beam);
+    let regs = beam::advance_registers(compared, settled, cycles);
+    let beam = beam::advance(settled, cycles);
+    let report = report_of(before, settled, regs, cycles);
+    Ended { report, regs, beam }
+}
+
 // One step of a state in order, by a number of cycles that does not pass the end of a line.
 pub fn step(s: State, vram: &[u8], oam: &[u8], a: &mut [u8], b: &mut [u8], cycles: u8) -> Stepped
     requires { ⌜ Steppable (tables (now vram) (now oam)) (pictures (now a) (now b)) s × (s .beam .cycle + cycles ≤ lineCycles) ⌝ }
     ensures { λ r. ⌜ StepTaken cycles (tables (now (vram .entry)) (now (oam .entry))) s
         (pictures (now (a .entry)) (now (b .entry))) (r .report) (r .state) (pictures (now (a .exit)) (now (b .exit))) ⌝ }
 {
-    if !wrap::bit(s.regs.lcdc, 7) {
-        let report = off_report(s);
-        return Stepped { report, state: s };
+    let before = s.beam;
+    let mut held = modes::mode_level(s);
+    let mut n = s;
+    if may_begin(n) {
+        n = modes::enter_mode(n);
+        held = modes::mode_level(n);
+        n = modes::search(oam, n);
     }
-    let settled = settle(s, vram, oam, a, b, cycles);
-    let state = beam::advance(settled, cycles);
-    let report = report_of(s, settled, state, cycles);
-    Stepped { report, state }
+    if does_draw(n) {
+        n = draw_hidden(vram, n, a, b, cycles);
+    }
+    // while the display is off nothing has changed, and nothing does
+    let mut report = off_report(n);
+    if wrap::bit(n.regs.lcdc, 7) {
+        let end = finish(before, held, n, cycles);
+        let regs = end.regs;
+        let beam = end.beam;
+        n.regs = regs;
+        n.beam = beam;
+        report = end.report;
+    }
+    Stepped { report, state: n }
 }

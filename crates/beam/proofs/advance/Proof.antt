@@ -1,6 +1,6 @@
 -- `beam::advance` meets its contract.
 use borrow.Author.Tests.{eq-eqb, ne-eqb}
-use Rattle.beam.specs.Advance.{advanced}
+use Rattle.beam.specs.Advance.{advancedBeam}
 use borrow.Author.Needs.{needs}
 use Rattle.beam.proofs.advance.Statement.{statement}
 use Rattle.beam.proofs.advance.Tie as tie
@@ -12,7 +12,7 @@ onward-by-requires : tie.Need-onward-by-requires
 onward-by-requires c κs = search needs
 
 returns : tie.Need-returns
-unfolding advanced
+unfolding advancedBeam
 returns c = rw (c .onward-by .ensures, ne-eqb _ _ (c .before .if1 .taken))
 
 add-if2 : tie.Need-add-if2
@@ -21,40 +21,22 @@ add-if2 c = search needs
 next-frame-requires : tie.Need-next-frame-requires
 next-frame-requires c κs = search needs
 
-at-line-requires : tie.Need-at-line-requires
-at-line-requires c κs = search needs
-
 returns-2 : tie.Need-returns-2
-unfolding advanced
+unfolding advancedBeam
 returns-2 c =
-    let last = c .before .before in
-    let over = last .before .before in
-    rw (c .at-line .ensures, c .before .next-frame .ensures, eq-eqb _ _ (over .if1 .left), eq-eqb _ _ (last .if2 .taken))
+    let last = c .before in
+    rw (c .next-frame .ensures, eq-eqb _ _ (last .before .before .if1 .left), eq-eqb _ _ (last .if2 .taken))
 
 next-line-requires : tie.Need-next-line-requires
 next-line-requires c κs = search needs
 
-at-line-requires-2 : tie.Need-at-line-requires-2
-at-line-requires-2 c κs = search needs
-
 returns-3 : tie.Need-returns-3
-unfolding advanced
+unfolding advancedBeam
 returns-3 c =
-    let more = c .before .before in
-    let over = more .before .before in
-    rw (c .at-line2 .ensures, c .before .next-line .ensures, eq-eqb _ _ (over .if1 .left), ne-eqb _ _ (more .if2 .left))
+    let more = c .before in
+    rw (c .next-line .ensures, eq-eqb _ _ (more .before .before .if1 .left), ne-eqb _ _ (more .if2 .left))
 
 pub advance-spec : {M : Type 1} → statement M
 advance-spec =
     tie.close
-    (tie.spec
-    add-if1
-    onward-by-requires
-    returns
-    add-if2
-    next-frame-requires
-    at-line-requires
-    returns-2
-    next-line-requires
-    at-line-requires-2
-    returns-3)
+    (tie.spec add-if1 onward-by-requires returns add-if2 next-frame-requires returns-2 next-line-requires returns-3)

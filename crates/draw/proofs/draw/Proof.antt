@@ -1,21 +1,19 @@
 -- `draw::draw` meets its contract.
-use Rattle.draw.proofs.Fine.{fed-pipe-fine}
 use borrow.Author.Needs.{needs}
+use Rattle.draw.proofs.Halves.{taken-over}
 use Rattle.draw.proofs.draw.Statement.{statement}
 use Rattle.draw.proofs.draw.Tie as tie
 
-advance-requires : tie.Need-advance-requires
-advance-requires c κs = search needs
-
 shift-requires : tie.Need-shift-requires
-shift-requires c κs =
-    let start = c .before .before in
-    let f = start .pre .1 in
-    let p = fed-pipe-fine _ (start .args .vram .now) (start .args .s) (f .pipe) in
-    record { size = start .pre .0; x = f .beam .x; selection = f .selection; pipe = rw (c .advance .ensures) p }
+shift-requires c κs = search needs
+
+take-over-requires : tie.Need-take-over-requires
+take-over-requires c κs = search needs
 
 returns : tie.Need-returns
-returns c = rw (c .shift .ensures, c .before .advance .ensures)
+returns c =
+    let shifted = c .before in
+    rw (c .take-over .ensures, shifted .shift .ensures, taken-over (shifted .before .args .s))
 
 pub draw-spec : {M : Type 1} → statement M
-draw-spec = tie.close (tie.spec advance-requires shift-requires returns)
+draw-spec = tie.close (tie.spec shift-requires take-over-requires returns)
