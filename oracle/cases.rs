@@ -2,6 +2,7 @@
 
 use crate::leaves::Leaves;
 use crate::list::{request, List};
+use crate::machine::{corrupt, CORRUPTIONS};
 use crate::machine_lists::Run;
 use crate::memory::{InterruptManager, InterruptType};
 use crate::ppu::parts::LCD_WIDTH;
@@ -345,19 +346,20 @@ fn short_cases(run: &mut Named) {
     ));
 
     // P11, in row 1: mode 2, cycle 8.
-    for (op, said) in [(8, "033F"), (9, "0F3F")] {
+    for (kind, said) in [(0, "033F"), (1, "0F3F")] {
         run.call(&[1, 1, 0]);
         for (address, byte) in [(0, 0x0F), (1, 0x0F), (4, 0x33), (5, 0x33), (8, 0xFF), (9, 0)] {
             run.oam(address, byte);
         }
         steps(run, TO_LINE_0 + 2);
-        run.call(&[op]);
+        run.oam_bug(kind);
         let oam = run.machine.ppu.look_oam();
         let found = u16::from_le_bytes([oam[8], oam[9]]);
-        run.end(case(&format!("P11: op {}", op), said, format!("{:04X}", found)));
+        let name = format!("P11: {}", CORRUPTIONS[kind as usize]);
+        run.end(case(&name, said, format!("{:04X}", found)));
     }
 
-    // The three corruptions in the rows where their rules change.
+    // The kinds of corruption in the rows where their rules change.
     run.call(&[1, 0, 1]);
     steps(run, TO_LINE_0 + 1);
     for row in 1..20u8 {
@@ -365,31 +367,37 @@ fn short_cases(run: &mut Named) {
         if ![1, 3, 4, 18, 19].contains(&row) {
             continue;
         }
-        for op in [10, 8, 9] {
+        for kind in [2, 0, 1] {
             for address in 8 * row.saturating_sub(2)..8 * row + 8 {
-                run.oam(address, address.wrapping_mul(167) ^ (address >> 3) ^ op);
+                run.oam(address, address.wrapping_mul(167) ^ (address >> 3) ^ kind);
             }
-            run.call(&[op]);
+            run.oam_bug(kind);
             run.call(&[11]);
         }
     }
     run.digests();
 
-    // The edges of refusal 5: mode 2 at cycle 2, 4, 80.
+    // The edges of refusal 5: mode 2 at cycle 2, 4, 80; a kind over 2 is refused by 4 at any moment.
     run.call(&[1, 0, 1]);
     steps(run, TO_LINE_0);
-    let mut numbers = Vec::new();
+    let (mut numbers, mut no_kind) = (Vec::new(), Vec::new());
     for cycle in 1..42 {
         run.step(2);
         if [2, 4, 80, 82].contains(&(2 * cycle)) {
-            let number = run.call(&[10])[0];
-            numbers.push((2 * cycle, run.machine.ppu.get_current_mode(), number));
+            let mode = run.machine.ppu.get_current_mode();
+            numbers.push((2 * cycle, mode, run.oam_bug(2)));
+            no_kind.push((2 * cycle, mode, run.oam_bug(3), run.oam_bug(255)));
         }
     }
     run.end(case(
         "corruption on line 0: cycle, mode, number",
         "[(2, 2, 5), (4, 2, 0), (80, 2, 0), (82, 3, 0)]",
         format!("{:?}", numbers),
+    ));
+    run.end(case(
+        "corruption of kinds 3 and 255 on line 0: cycle, mode, numbers",
+        "[(2, 2, 4, 4), (4, 2, 4, 4), (80, 2, 4, 4), (82, 3, 4, 4)]",
+        format!("{:?}", no_kind),
     ));
 }
 
@@ -560,14 +568,8 @@ fn published_cases(run: &mut Named) {
     run.call(&[1, 0, 1]);
     steps(run, TO_LINE_0);
     run.step(2);
-    let numbers = [8, 9, 10].map(|op| run.call(&[op])[0]);
-    let stopped = past_refusals(run, |ppu| {
-        [
-            stops(|| ppu.oam_bug_write()),
-            stops(|| ppu.oam_bug_read()),
-            stops(|| ppu.oam_bug_read_write()),
-        ]
-    });
+    let numbers = [0, 1, 2].map(|kind| run.oam_bug(kind));
+    let stopped = past_refusals(run, |ppu| [0, 1, 2].map(|kind| stops(|| corrupt(ppu, kind))));
     run.end(case(
         "published, a corruption in mode 2 at cycle 2: numbers; published stops",
         "[5, 5, 5]; [true, true, true]",
@@ -965,7 +967,7 @@ fn pan_docs_cases(run: &mut Named) {
     run.call(&[1, 0, 1]);
     run.oam(2, 0x12);
     steps(run, TO_LINE_0 + 2);
-    run.call(&[8]);
+    run.oam_bug(0);
     run.end(parting(
         "OAM corruption in colour mode: byte 10, over which byte 2 is copied",
         "12",

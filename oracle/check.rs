@@ -1,7 +1,7 @@
 //! Counts over a list of the protocol `machine`, and what a list of a kind must hold.
 
 use crate::list::spaced;
-use crate::machine::Machine;
+use crate::machine::{place_of, Machine, CALLS, CORRUPTIONS};
 use crate::missing::{there, Missing};
 use crate::sweep_check::Sweep;
 use std::collections::BTreeSet;
@@ -16,39 +16,30 @@ const WRITABLE: [u8; 16] = [
 ];
 const READABLE: [u8; 4] = [0x68, 0x69, 0x6A, 0x6B];
 
-/// The calls by their ops; the first stands for all that are none.
-const CALLS: [&str; 16] = [
-    "unknown op",
-    "start",
-    "step",
-    "register write",
-    "register read",
-    "VRAM write",
-    "OAM write",
-    "colour flag",
-    "corruption by a write",
-    "corruption by a read",
-    "corruption by a read-write",
-    "digest of pictures and memory",
-    "digest of the state",
-    "pick",
-    "slot",
-    "look",
-];
-const UNKNOWN: usize = 0;
-
 /// The ops that can be refused, with the number.
-const REFUSALS: [(usize, u8); 8] = [(2, 3), (3, 4), (4, 4), (6, 4), (13, 4), (8, 5), (9, 5), (10, 5)];
+const REFUSALS: [(u8, u8); 7] = [(2, 3), (3, 4), (4, 4), (6, 4), (8, 4), (8, 5), (PICK, 4)];
+const PICK: u8 = 13;
+/// The digests of pictures and memory, and of the state.
+const DIGESTS: [u8; 2] = [11, 12];
+
+fn name_of(op: u8) -> &'static str {
+    place_of(op).map_or("unknown op", |k| CALLS[k].1)
+}
 
 /// Counts over a list of calls, and the rule that every state is in order.
 #[derive(Default)]
 pub struct Check {
     machine: Machine,
     calls: u64,
-    ops: [u64; 16],
+    /// By the place in `CALLS`.
+    ops: [u64; CALLS.len()],
     answers: [u64; 6],
     /// By the place in `REFUSALS`.
     refused: [u64; REFUSALS.len()],
+    /// The corruptions of each kind, accepted and refused by 5; the kinds that came.
+    corrupted: [u64; CORRUPTIONS.len()],
+    untimely: [u64; CORRUPTIONS.len()],
+    kinds: BTreeSet<u8>,
     unknown_ops: BTreeSet<u8>,
     unknown_slots: BTreeSet<u8>,
     written: [u64; WRITABLE.len()],
@@ -95,7 +86,9 @@ impl Check {
         let op = request[0];
 
         self.calls += 1;
-        self.ops[if op < 16 { op as usize } else { UNKNOWN }] += 1;
+        if let Some(k) = place_of(op) {
+            self.ops[k] += 1;
+        }
         match answer[0] {
             0 => {
                 self.answers[0] += 1;
@@ -103,9 +96,12 @@ impl Check {
             }
             number @ 1..=5 => {
                 self.answers[number as usize] += 1;
-                let by = REFUSALS.iter().position(|&known| known == (op as usize, number));
+                let by = REFUSALS.iter().position(|&known| known == (op, number));
                 if let Some(by) = by {
                     self.refused[by] += 1;
+                }
+                if (op, number) == (8, 5) {
+                    self.untimely[request[1] as usize] += 1;
                 }
             }
             _ if op == 14 => {
@@ -120,6 +116,9 @@ impl Check {
         }
         if op == 6 {
             self.oam.insert(request[1]);
+        }
+        if op == 8 {
+            self.kinds.insert(request[1]);
         }
         if op == 1 && self.calls > 1 {
             self.undigested += (self.last != [12, 11]) as u64;
@@ -175,9 +174,15 @@ impl Check {
                 self.vram.insert(0x2000 * bank + u16::from_le_bytes([a, b]) as usize % 0x2000);
             }
             7 => self.flags[(a != 0) as usize] += 1,
+            8 => self.corrupted[a as usize] += 1,
             13 => self.picks[(b == 16) as usize] += 1,
             _ => {}
         }
+    }
+
+    /// How often an op of `CALLS` came.
+    fn times(&self, op: u8) -> u64 {
+        place_of(op).map_or(0, |k| self.ops[k])
     }
 
     fn refusals_by(&self, number: u8) -> u64 {
@@ -190,7 +195,9 @@ impl Check {
 
     pub fn print(&self, kind: &str, out: &mut dyn Write) -> io::Result<i32> {
         writeln!(out, "calls {}", self.calls)?;
-        writeln!(out, "calls by op 1 to 15 {:?}, unknown ops {}", &self.ops[1..], self.ops[UNKNOWN])?;
+        let ops: Vec<String> = CALLS.iter().zip(self.ops).map(|((op, _), times)| format!("{}: {}", op, times)).collect();
+        let unknown = self.calls - self.ops.iter().sum::<u64>();
+        writeln!(out, "calls by op {}; unknown ops {}", ops.join(", "), unknown)?;
         writeln!(
             out,
             "answers by number 0 to 5 {:?}, by 255 {}",
@@ -247,18 +254,33 @@ impl Check {
     }
 
     fn digests(&self, missing: &mut Missing) {
-        for op in [11, 12] {
-            missing.want(self.ops[op] > 0, CALLS[op]);
+        for op in DIGESTS {
+            missing.want(self.times(op) > 0, name_of(op));
         }
     }
 
+    /// Every call, and every kind of corruption.
+    fn every_call(&self, missing: &mut Missing) {
+        missing.want_all(&self.ops, |k| CALLS[k].1.to_string());
+        self.corruptions(missing);
+    }
+
+    fn corruptions(&self, missing: &mut Missing) {
+        missing.want_all(&self.corrupted, |k| format!("corruption by a {}", CORRUPTIONS[k]));
+    }
+
+    /// Every refusal by the ops asked for, by 5 of each kind of corruption.
+    fn refusals(&self, missing: &mut Missing, asked: impl Fn(u8) -> bool) {
+        for (&(op, number), &times) in REFUSALS.iter().zip(&self.refused) {
+            missing.want(times > 0 || !asked(op), format!("{} refused by {}", name_of(op), number));
+        }
+        missing.want_all(&self.untimely, |k| format!("corruption by a {} refused by 5", CORRUPTIONS[k]));
+    }
+
     fn random(&self, missing: &mut Missing, out: &mut dyn Write) -> io::Result<()> {
-        missing.want_all(&self.ops[1..], |k| CALLS[k + 1].to_string());
-        missing.want_all(&self.refused, |k| {
-            let (op, number) = REFUSALS[k];
-            format!("{} refused by {}", CALLS[op], number)
-        });
-        missing.want(!self.unknown_ops.is_empty(), CALLS[UNKNOWN]);
+        self.every_call(missing);
+        self.refusals(missing, |_| true);
+        missing.want(!self.unknown_ops.is_empty(), "an unknown op");
         missing.want(!self.unknown_slots.is_empty(), "a slot over 9");
         missing.want_all(&self.written, |k| format!("FF{:02X} written", WRITABLE[k]));
         missing.want_all(&self.read, |k| format!("FF{:02X} read", READABLE[k]));
@@ -275,8 +297,9 @@ impl Check {
         missing.want_all(&self.picks, |k| format!("a pick of height {}", 8 + 8 * k));
         writeln!(
             out,
-            "random: {} of 15 calls, refusals 3 ({}) 4 ({}) 5 ({}), unknown ({}), {} of {} by call, {} of 16 registers written, {} of 4 read",
-            there(&self.ops[1..]),
+            "random: {} of {} calls, refusals 3 ({}) 4 ({}) 5 ({}), unknown ({}), {} of {} by call, {} of 16 registers written, {} of 4 read",
+            there(&self.ops),
+            CALLS.len(),
             self.refusals_by(3),
             self.refusals_by(4),
             self.refusals_by(5),
@@ -290,7 +313,7 @@ impl Check {
             out,
             "random: starts {} ({} of 4 kinds), swaps {} of which whole {}, blankings {}, {} of 4 request bits, window \
              entries {}, VRAM writes by bank {:?}, picks of 8 and 16 {:?}, colour flag off and on {:?}, steps of 2 {} of 4 {}",
-            self.ops[1],
+            self.times(1),
             there(&self.starts),
             self.swaps,
             self.whole,
@@ -309,8 +332,7 @@ impl Check {
     fn cases(&self, missing: &mut Missing, out: &mut dyn Write) -> io::Result<()> {
         let undigested = self.undigested + (self.last != [12, 11]) as u64;
         missing.want(undigested == 0, "both digests behind the last call before a start");
-        missing.want_all(&self.refused[..4], |k| format!("{} refused by {}", CALLS[REFUSALS[k].0], REFUSALS[k].1));
-        missing.want_all(&self.refused[5..], |k| format!("{} refused by 5", CALLS[REFUSALS[5 + k].0]));
+        self.refusals(missing, |op| op != PICK);
         missing.want_all(&self.starts[..3], |k| {
             format!("start: {}", ["not DMG, outside colour mode", "not DMG, colour", "DMG"][k])
         });
@@ -323,14 +345,14 @@ impl Check {
         writeln!(
             out,
             "cases: {} of {} stretches from a start end with both digests",
-            self.ops[1].saturating_sub(undigested),
-            self.ops[1]
+            self.times(1).saturating_sub(undigested),
+            self.times(1)
         )
     }
 
     fn sample(&self, missing: &mut Missing, out: &mut dyn Write) -> io::Result<()> {
         missing.want(self.calls <= 40_000, "room: the sample has over 40,000 calls");
-        missing.want_all(&self.ops[1..], |k| CALLS[k + 1].to_string());
+        self.every_call(missing);
         for number in [3, 4, 5] {
             missing.want(self.refusals_by(number) > 0, format!("a refusal by {}", number));
         }
@@ -346,45 +368,52 @@ impl Check {
         missing.want(self.vram.len() == 0x4000, "a byte of VRAM");
         missing.want(self.oam.len() == 256, "an OAM address");
         missing.want(self.values.len() == 16 * 256, "a value of a register");
+        missing.want(self.kinds.len() == 256, "a kind of corruption");
+        self.corruptions(missing);
+        self.refusals(missing, |op| op == 8);
         missing.want_all(&self.read, |k| format!("FF{:02X} read", READABLE[k]));
         missing.want_all(&self.starts, |k| format!("start {}", k));
         self.digests(missing);
         writeln!(
             out,
-            "writes: {} of 16,384 bytes of VRAM, {} of 256 OAM addresses, {} of 4,096 values of registers on {} of 4 devices",
+            "writes: {} of 16,384 bytes of VRAM, {} of 256 OAM addresses, {} of 4,096 values of registers on {} of 4 devices, {} of 256 \
+             kinds of corruption",
             spaced(self.vram.len() as u64),
             self.oam.len(),
             spaced(self.values.len() as u64),
-            there(&self.starts)
+            there(&self.starts),
+            self.kinds.len()
         )
     }
 
     fn unknowns(&self, missing: &mut Missing, out: &mut dyn Write) -> io::Result<()> {
-        missing.want(self.unknown_ops.len() == 241, "an op of 0 and 16 to 255");
+        missing.want(self.unknown_ops.len() == 256 - CALLS.len(), "an unknown op");
         missing.want(self.unknown_slots.len() == 246, "a slot of 10 to 255");
-        missing.want(self.ops[2] > 0 && self.ops[13] > 0, "accepted calls");
+        missing.want(self.times(2) > 0 && self.times(13) > 0, "accepted calls");
         self.digests(missing);
         writeln!(
             out,
-            "unknown: {} of 241 ops, {} of 246 slots, digests of the state {}, of pictures and memory {}",
+            "unknown: {} of {} ops, {} of 246 slots, digests of the state {}, of pictures and memory {}",
             self.unknown_ops.len(),
+            256 - CALLS.len(),
             self.unknown_slots.len(),
-            self.ops[12],
-            self.ops[11]
+            self.times(12),
+            self.times(11)
         )
     }
 
     fn print_few(&self, name: &str, out: &mut dyn Write) -> io::Result<()> {
         writeln!(
             out,
-            "{}: {} of 15 calls, refusals 3 ({}) 4 ({}) 5 ({}), starts {} ({} of 4 kinds), swaps {} of which whole {}, \
+            "{}: {} of {} calls, refusals 3 ({}) 4 ({}) 5 ({}), starts {} ({} of 4 kinds), swaps {} of which whole {}, \
              blankings {}",
             name,
-            there(&self.ops[1..]),
+            there(&self.ops),
+            CALLS.len(),
             self.refusals_by(3),
             self.refusals_by(4),
             self.refusals_by(5),
-            self.ops[1],
+            self.times(1),
             there(&self.starts),
             self.swaps,
             self.whole,

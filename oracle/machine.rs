@@ -9,8 +9,43 @@ use crate::ppu::{LookSelected, Ppu};
 const WHOLE: u16 = (LCD_WIDTH * LCD_HEIGHT) as u16;
 
 pub const REFUSED_STEP: u8 = 3;
-pub const REFUSED_ADDRESS: u8 = 4;
+pub const REFUSED_ARGUMENT: u8 = 4;
 pub const REFUSED_CORRUPTION: u8 = 5;
+
+/// The calls by their ops. 9 and 10 are none.
+pub const CALLS: [(u8, &str); 13] = [
+    (1, "start"),
+    (2, "step"),
+    (3, "register write"),
+    (4, "register read"),
+    (5, "VRAM write"),
+    (6, "OAM write"),
+    (7, "colour flag"),
+    (8, "OAM corruption"),
+    (11, "digest of pictures and memory"),
+    (12, "digest of the state"),
+    (13, "pick"),
+    (14, "slot"),
+    (15, "look"),
+];
+
+/// The place of an op in `CALLS`.
+pub fn place_of(op: u8) -> Option<usize> {
+    CALLS.iter().position(|&(known, _)| known == op)
+}
+
+/// The kinds of corruption by their numbers.
+pub const CORRUPTIONS: [&str; 3] = ["write", "read", "read-write"];
+
+/// The given function of a kind of corruption, without refusals.
+pub fn corrupt(ppu: &mut Ppu, kind: u8) {
+    match kind {
+        0 => ppu.oam_bug_write(),
+        1 => ppu.oam_bug_read(),
+        2 => ppu.oam_bug_read_write(),
+        _ => panic!("no kind of corruption: {}", kind),
+    }
+}
 
 /// Bit 1 for VBlank, bit 2 for STAT.
 pub struct Requests(pub u8);
@@ -62,18 +97,18 @@ impl Machine {
             3 => answer[0] = self.write_register(word, a[2]),
             4 => match self.read_register(word) {
                 Some(value) => answer[1] = value,
-                None => answer[0] = REFUSED_ADDRESS,
+                None => answer[0] = REFUSED_ARGUMENT,
             },
             5 => self.ppu.write_vram(word, a[2]),
             6 => {
                 if a[0] < 160 {
                     self.ppu.write_oam_no_lock(word, a[2]);
                 } else {
-                    answer[0] = REFUSED_ADDRESS;
+                    answer[0] = REFUSED_ARGUMENT;
                 }
             }
             7 => self.ppu.update_cgb_mode(a[0] != 0),
-            8..=10 => answer[0] = self.corrupt(request[0]),
+            8 => answer[0] = self.oam_bug(a[0]),
             11 => {
                 let mut digest = Digest::new();
                 digest.take(self.ppu.look_lcd().look_picture(0));
@@ -96,7 +131,7 @@ impl Machine {
                     self.pick = slots;
                     answer[1] = count;
                 } else {
-                    answer[0] = REFUSED_ADDRESS;
+                    answer[0] = REFUSED_ARGUMENT;
                 }
             }
             14 if a[0] < 10 => answer[1..6].copy_from_slice(&self.pick[a[0] as usize]),
@@ -173,7 +208,7 @@ impl Machine {
             0xFF6A => ppu.write_cgb_sprite_palettes_index(value),
             0xFF6B => ppu.write_cgb_sprite_palettes_data(value),
             0xFF6C => ppu.write_sprite_priority_mode(value),
-            _ => return REFUSED_ADDRESS,
+            _ => return REFUSED_ARGUMENT,
         }
         0
     }
@@ -188,16 +223,15 @@ impl Machine {
         }
     }
 
-    fn corrupt(&mut self, op: u8) -> u8 {
+    fn oam_bug(&mut self, kind: u8) -> u8 {
+        if kind >= CORRUPTIONS.len() as u8 {
+            return REFUSED_ARGUMENT;
+        }
         let cycle = self.ppu.look_cycle();
         if self.ppu.get_current_mode() == 2 && (cycle < 4 || cycle > 83) {
             return REFUSED_CORRUPTION;
         }
-        match op {
-            8 => self.ppu.oam_bug_write(),
-            9 => self.ppu.oam_bug_read(),
-            _ => self.ppu.oam_bug_read_write(),
-        }
+        corrupt(&mut self.ppu, kind);
         0
     }
 }

@@ -3,7 +3,7 @@
 
 use crate::cases;
 use crate::list::{request, List, Random};
-use crate::machine::Machine;
+use crate::machine::{place_of, Machine, CORRUPTIONS};
 use std::io::{self, Write};
 
 /// A line and a frame in steps of 4.
@@ -106,6 +106,17 @@ impl<'a> Run<'a> {
 
     pub fn step(&mut self, cycles: u8) -> [u8; 16] {
         self.call(&[2, cycles])
+    }
+
+    /// A corruption of a kind: its number.
+    pub fn oam_bug(&mut self, kind: u8) -> u8 {
+        self.call(&[8, kind])[0]
+    }
+
+    /// A corruption of a random kind, now and then of one that there is not.
+    fn random_bug(&mut self) {
+        let kind = if self.random.once_in(8) { self.random.byte() } else { self.random.below(3) as u8 };
+        self.oam_bug(kind);
     }
 
     /// The digests of the state and of what is stored, unless they were the last two calls.
@@ -268,10 +279,7 @@ impl<'a> Run<'a> {
             33 => {
                 self.call(&[6, a, b, c]);
             }
-            34..=36 => {
-                let op = self.random.of(&[8, 9, 10]);
-                self.call(&[op]);
-            }
+            34..=36 => self.random_bug(),
             37 => {
                 let low = self.random.of(&[0x68, 0x69, 0x6A, 0x6B, 0x6B, 0x69, 0x6C, 0x40, 0x67, a]);
                 let high = if b % 8 == 0 { c } else { 0xFF };
@@ -291,8 +299,8 @@ impl<'a> Run<'a> {
                     self.call(&[14, b.max(10)]);
                 }
                 _ => {
-                    // 16 to 255, and 0.
-                    self.call(&meaningful((16 + b as u16 % 241) as u8));
+                    let ops = unknown_ops();
+                    self.call(&meaningful(ops[b as usize % ops.len()]));
                 }
             },
         }
@@ -507,7 +515,7 @@ impl<'a> Run<'a> {
         self.digests();
     }
 
-    /// The three corruptions at cycle 2 of a line, where mode 2 refuses them, and at cycle 4.
+    /// Every kind of corruption at cycle 2 of a line, where mode 2 refuses them, and at cycle 4.
     fn early_corruptions(&mut self) {
         // A line of steps of 2 at most.
         for _ in 0..2 * LINE {
@@ -521,11 +529,29 @@ impl<'a> Run<'a> {
         }
         for _ in 0..2 {
             self.step(2);
-            for op in [8, 9, 10] {
-                self.call(&[op]);
+            for kind in 0..CORRUPTIONS.len() as u8 {
+                self.oam_bug(kind);
             }
         }
         self.digests();
+    }
+
+    /// Every kind of corruption, of the 256, on line 0: in mode 2 at cycle 2, which is too early, and at row 6; then in mode 3.
+    fn every_kind(&mut self) {
+        self.call(&[1, 0, 1]);
+        self.fill_oam();
+        for steps in [28 + 1, 13, 36] {
+            for _ in 0..steps {
+                self.step(2);
+            }
+            for kind in 0..=255 {
+                self.oam_bug(kind);
+                if kind < CORRUPTIONS.len() as u8 {
+                    self.call(&[11]);
+                }
+            }
+            self.digests();
+        }
     }
 
     /// A stretch of a random list. It begins with a call, so that a list of them fills up.
@@ -565,8 +591,7 @@ impl<'a> Run<'a> {
                 self.until_mode(2);
                 for _ in 0..60 {
                     if self.random.once_in(3) {
-                        let op = self.random.of(&[8, 9, 10]);
-                        self.call(&[op]);
+                        self.random_bug();
                     }
                     self.stride(gait);
                 }
@@ -640,7 +665,7 @@ pub fn sample(out: &mut dyn Write) -> io::Result<()> {
 }
 
 /// Every byte of VRAM in both banks, every OAM address, every value of every register and every address of their page, each
-/// looked for afterwards: a write that is lost, or goes astray, at one address is seen.
+/// looked for afterwards: a write that is lost, or goes astray, at one address is seen. Then every kind of corruption.
 pub fn writes(out: &mut dyn Write) -> io::Result<()> {
     let mut run = Run::new(out, u64::MAX, 5, 0);
     run.call(&[1, 0, 1]);
@@ -676,6 +701,7 @@ pub fn writes(out: &mut dyn Write) -> io::Result<()> {
         }
         run.digests();
     }
+    run.every_kind();
     run.finish()
 }
 
@@ -694,10 +720,7 @@ pub fn unknown(out: &mut dyn Write) -> io::Result<()> {
     run.call(&[13, 16, 16]);
     run.nothing_changed();
 
-    for op in 0..=255u8 {
-        if (1..=15).contains(&op) {
-            continue;
-        }
+    for op in unknown_ops() {
         run.call(&meaningful(op));
         run.call(&[12]);
         if op % 16 == 15 {
@@ -722,6 +745,11 @@ pub fn unknown(out: &mut dyn Write) -> io::Result<()> {
     }
     run.digests();
     run.finish()
+}
+
+/// The ops that are none.
+fn unknown_ops() -> Vec<u8> {
+    (0..=255).filter(|&op| place_of(op).is_none()).collect()
 }
 
 /// A call with an op and the arguments of an accepted call of the op with the same lower four bits, to show a program that

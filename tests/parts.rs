@@ -74,12 +74,13 @@ const PARTS: &[(&str, Part)] = &[
     ("refusals, steps", refusals::steps),
     ("refusals, addresses", refusals::addresses),
     ("refusals, moments", refusals::moments),
+    ("refusals, kinds", refusals::kinds),
     ("runs", runs::runs),
     ("sweep", sweep::sweep),
 ];
 
 /// The cases of all parts at their own sizes, seed 1: a part that lost some is seen.
-const ALL: u64 = 26_008_596;
+const ALL: u64 = 26_228_276;
 
 fn main() {
     let words: Vec<String> = std::env::args().skip(1).collect();

@@ -2,36 +2,29 @@
 
 use crate::bench::{caught, fill, Bench};
 use crate::bytes::{set_bytes, shrink};
+use given::machine::{corrupt, CORRUPTIONS};
 use given::ppu::Ppu;
 use rattle::oam_bug;
 
-const KINDS: [&str; 3] = ["write", "read", "read-write"];
+const KINDS: u8 = CORRUPTIONS.len() as u8;
 
-fn wanted(ppu: &mut Ppu, oam: &[u8], kind: usize, mode: u8, cycle: u16) -> [u8; 160] {
+fn wanted(ppu: &mut Ppu, oam: &[u8], kind: u8, mode: u8, cycle: u16) -> [u8; 160] {
     ppu.part_set_oam(oam);
     ppu.part_set_cycle(mode, cycle);
-    match kind {
-        0 => ppu.oam_bug_write(),
-        1 => ppu.oam_bug_read(),
-        _ => ppu.oam_bug_read_write(),
-    }
+    corrupt(ppu, kind);
     ppu.look_oam()
 }
 
-fn got(oam: &[u8], kind: usize, mode: u8, cycle: u16) -> Result<[u8; 160], String> {
+fn got(oam: &[u8], kind: u8, mode: u8, cycle: u16) -> Result<[u8; 160], String> {
     caught(|| {
         let mut oam: [u8; 160] = oam.try_into().unwrap();
         let row = oam_bug::corrupted_row(mode, cycle);
-        match kind {
-            0 => oam_bug::corrupt_write(&mut oam, row),
-            1 => oam_bug::corrupt_read(&mut oam, row),
-            _ => oam_bug::corrupt_read_write(&mut oam, row),
-        }
+        oam_bug::corrupt(&mut oam, row, kind);
         oam
     })
 }
 
-fn compare(bench: &mut Bench, oam: &[u8], kind: usize, mode: u8, cycle: u16) -> Result<(), String> {
+fn compare(bench: &mut Bench, oam: &[u8], kind: u8, mode: u8, cycle: u16) -> Result<(), String> {
     let ppu = &mut bench.given.ppu;
     if Ok(wanted(ppu, oam, kind, mode, cycle)) == got(oam, kind, mode, cycle) {
         bench.cases += 1;
@@ -48,7 +41,8 @@ fn compare(bench: &mut Bench, oam: &[u8], kind: usize, mode: u8, cycle: u16) -> 
         Ok(after) => bytes("got", &after),
         Err(stop) => format!("  got: {}", stop),
     };
-    let inputs = format!("  {} in mode {} at cycle {}", KINDS[kind], mode, cycle);
+    let name = CORRUPTIONS[kind as usize];
+    let inputs = format!("  {} in mode {} at cycle {}", name, mode, cycle);
     Err([inputs, bytes("OAM", &oam), wanted, got].join("\n"))
 }
 
@@ -64,7 +58,7 @@ pub fn corruptions(bench: &mut Bench) -> Result<(), String> {
                 .zip(mask)
                 .for_each(|(byte, mask)| *byte &= mask);
         }
-        for kind in 0..3 {
+        for kind in 0..KINDS {
             for row in 0..20 {
                 let cycle = 4 + 4 * row + bench.random.below(4) as u16;
                 compare(bench, &oam, kind, 2, cycle)?;
@@ -74,7 +68,7 @@ pub fn corruptions(bench: &mut Bench) -> Result<(), String> {
         }
     }
     // every mode and cycle
-    for kind in 0..3 {
+    for kind in 0..KINDS {
         for mode in 0..4 {
             for cycle in 0..456 {
                 if mode != 2 || (4..=83).contains(&cycle) {

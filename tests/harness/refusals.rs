@@ -7,7 +7,7 @@ use crate::states;
 use given::ppu::Ppu;
 use rattle::hardware::Machine;
 use rattle::ppu;
-use rattle::refusals::{lowest, own};
+use rattle::refusals::{first, lowest, own};
 use rattle::state::{State, Waiting};
 use rattle::step::Report;
 
@@ -21,9 +21,7 @@ enum Call {
     WriteVram(u16, u8),
     WriteOam(u16, u8),
     SetColour(bool),
-    BugWrite,
-    BugRead,
-    BugReadWrite,
+    OamBug(u8),
     Pick(u8, u8),
     Screen,
 }
@@ -39,9 +37,9 @@ const ALL: [Call; 12] = [
     WriteVram(0x9801, 5),
     WriteOam(0xFE9F, 6),
     SetColour(true),
-    BugWrite,
-    BugRead,
-    BugReadWrite,
+    OamBug(0),
+    OamBug(1),
+    OamBug(2),
     Pick(143, 16),
     Screen,
 ];
@@ -52,7 +50,7 @@ fn lends(call: Call) -> [bool; 4] {
         Start(..) | Step(_) => [true; 4],
         WriteRegister(..) | Screen => [false, false, true, true],
         WriteVram(..) => [true, false, false, false],
-        WriteOam(..) | BugWrite | BugRead | BugReadWrite | Pick(..) => [false, true, false, false],
+        WriteOam(..) | OamBug(_) | Pick(..) => [false, true, false, false],
         ReadRegister(_) | SetColour(_) => [false; 4],
     }
 }
@@ -61,7 +59,8 @@ fn takes_state(call: Call) -> bool {
     !matches!(call, Start(..) | WriteOam(..) | Pick(..))
 }
 
-fn has_address(call: Call) -> bool {
+/// What 4 is about: an address that is listed, a line and height, a kind.
+fn has_argument(call: Call) -> bool {
     const WRITABLE: [u16; 16] = [
         0xFF40, 0xFF41, 0xFF42, 0xFF43, 0xFF45, 0xFF47, 0xFF48, 0xFF49, 0xFF4A, 0xFF4B, 0xFF4F,
         0xFF68, 0xFF69, 0xFF6A, 0xFF6B, 0xFF6C,
@@ -71,6 +70,7 @@ fn has_address(call: Call) -> bool {
         ReadRegister(address) => (0xFF68..=0xFF6B).contains(&address),
         WriteOam(address, _) => address & 0xFF < 0xA0,
         Pick(line, tall) => line <= 143 && (tall == 8 || tall == 16),
+        OamBug(kind) => kind <= 2,
         _ => true,
     }
 }
@@ -91,10 +91,10 @@ fn number(call: Call, s: &State, ordered: bool, m: &Memory) -> u8 {
             return 3;
         }
     }
-    if !has_address(call) {
+    if !has_argument(call) {
         return 4;
     }
-    let bug = matches!(call, BugWrite | BugRead | BugReadWrite);
+    let bug = matches!(call, OamBug(_));
     if bug && s.regs.stat & 3 == 2 && (s.beam.cycle < 4 || s.beam.cycle > 83) {
         return 5;
     }
@@ -158,12 +158,8 @@ fn make(call: Call, s: State, m: &mut Memory) -> (u8, String) {
                 told(t.number == 0 || t.state == s, "the state as given"),
             )
         }
-        BugWrite | BugRead | BugReadWrite => {
-            let t = match call {
-                BugWrite => ppu::oam_bug_write(s, &mut m.oam),
-                BugRead => ppu::oam_bug_read(s, &mut m.oam),
-                _ => ppu::oam_bug_read_write(s, &mut m.oam),
-            };
+        OamBug(kind) => {
+            let t = ppu::oam_bug(s, &mut m.oam, kind);
             (t.number, told(t.state == s, "the state as given"))
         }
         Pick(line, tall) => {
@@ -266,7 +262,11 @@ impl Tally {
 
 /// A state in order that stands at a cycle and a mode.
 fn standing(bench: &mut Bench, cycle: u16, mode: u8) -> State {
-    let mut s = states::in_order(&mut bench.random);
+    at(states::in_order(&mut bench.random), cycle, mode)
+}
+
+/// The same at a cycle and a mode.
+fn at(mut s: State, cycle: u16, mode: u8) -> State {
     s.beam.line %= 144;
     s.beam.cycle = cycle;
     s.regs.stat = s.regs.stat & 0x7C | mode;
@@ -279,7 +279,8 @@ fn broken(s: &State, clause: usize) -> State {
     out
 }
 
-/// The ladder itself: lengths before the order of the state, that before the call's own test, on every input.
+/// The ladder itself: lengths before the order of the state, that before the call's own test, of its two own numbers the lower
+/// first; on every input.
 pub fn ladder(bench: &mut Bench) -> Result<(), String> {
     for number in 0..=255 {
         for passed in [false, true] {
@@ -301,6 +302,15 @@ pub fn ladder(bench: &mut Bench) -> Result<(), String> {
                 wanted,
                 || lowest(sized, ordered, number),
                 || format!("sized {}, ordered {}, own {}", sized, ordered, number),
+            )?;
+            bench.cases += 1;
+        }
+        for higher in 0..=255 {
+            let wanted = [higher, number][(number != 0) as usize];
+            same(
+                wanted,
+                || first(number, higher),
+                || format!("own numbers {} and {}", number, higher),
             )?;
             bench.cases += 1;
         }
@@ -334,6 +344,7 @@ pub fn lengths(bench: &mut Bench) -> Result<(), String> {
             WriteRegister(0xFF44, 1),
             ReadRegister(0xFF40),
             WriteOam(0xFEA0, 1),
+            OamBug(3),
             Pick(144, 8),
         ];
         for &call in ALL.iter().chain(&more) {
@@ -530,7 +541,7 @@ pub fn moments(bench: &mut Bench) -> Result<(), String> {
     for mode in 0..4 {
         for cycle in (0..456).step_by(2) {
             let s = standing(bench, cycle, mode);
-            for call in [BugWrite, BugRead, BugReadWrite] {
+            for call in [OamBug(0), OamBug(1), OamBug(2), OamBug(3)] {
                 for s in [s, broken(&s, 33)] {
                     let number = check(bench, call, &s, &mut m, &kept)?;
                     tally.0[number as usize] += 1;
@@ -543,6 +554,33 @@ pub fn moments(bench: &mut Bench) -> Result<(), String> {
         for tall in 0..=255 {
             let number = check(bench, Pick(line, tall), &s, &mut m, &kept)?;
             tally.0[number as usize] += 1;
+        }
+    }
+    bench.note = tally.note();
+    Ok(())
+}
+
+/// Every kind of corruption with every cause of another refusal, and with all of them together: OAM of its length, empty, one
+/// short, one long; a state in order, and each clause broken; moments in and outside mode 2, right, too early and too late.
+pub fn kinds(bench: &mut Bench) -> Result<(), String> {
+    let mut tally = Tally::default();
+    let full = bench.memory.clone();
+    for length in [160, 0, 159, 161] {
+        let mut kept = full.clone();
+        kept.oam.resize(length, 9);
+        let mut m = kept.clone();
+        for (cycle, mode) in [(8, 2), (2, 0), (2, 2), (84, 2)] {
+            let s = at(lively(bench), cycle, mode);
+            for clause in 0..=CLAUSES {
+                let s = if clause < CLAUSES { broken(&s, clause) } else { s };
+                if in_order(&s) != (clause == CLAUSES) {
+                    return Err(format!("  clause {} broken is in order", clause));
+                }
+                for kind in 0..=255 {
+                    let number = check(bench, OamBug(kind), &s, &mut m, &kept)?;
+                    tally.0[number as usize] += 1;
+                }
+            }
         }
     }
     bench.note = tally.note();

@@ -47,12 +47,8 @@ pub fn answer(
             let t = ppu::set_colour(*s, q[1] != 0);
             (out[0], *s) = (t.number, t.state);
         }
-        8..=10 => {
-            let t = match q[0] {
-                8 => ppu::oam_bug_write(*s, &mut m.oam),
-                9 => ppu::oam_bug_read(*s, &mut m.oam),
-                _ => ppu::oam_bug_read_write(*s, &mut m.oam),
-            };
+        8 => {
+            let t = ppu::oam_bug(*s, &mut m.oam, q[1]);
             (out[0], *s) = (t.number, t.state);
         }
         11 | 12 => {}

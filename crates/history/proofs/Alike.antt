@@ -2,7 +2,7 @@
 use mathlib.Core.Path.{_≡_, refl, sym, _∙_}
 use mathlib.Core.List.{List, [], _∷_}
 use Rattle.history.specs.Run as run
-use Rattle.history.specs.Run.{World, Call, step, write, read, colour, bugWrite, bugRead, bugReadWrite, shown, pick, number}
+use Rattle.history.specs.Run.{World, Call, step, write, read, colour, bug, shown, pick, number}
 use Rattle.history.specs.Run.{Deed, steps, writes, colours, stores, nothing, does, Turn, ours, astray, deedOf, perform}
 use Rattle.history.specs.Stored.{Trace, go, trace}
 use Rattle.history.specs.Demand.{Alike, AlikeRuns, Independent}
@@ -16,9 +16,7 @@ module _ {w v : World} (h : Alike w v) where
   same-number (run.vram address value) = rw (h .state, h .tables) refl
   same-number (run.oam address value) = rw (h .tables) refl
   same-number (colour flag) = rw (h .state) refl
-  same-number bugWrite = rw (h .state, h .tables) refl
-  same-number bugRead = rw (h .state, h .tables) refl
-  same-number bugReadWrite = rw (h .state, h .tables) refl
+  same-number (bug kind) = rw (h .state, h .tables) refl
   same-number shown = rw (h .state, h .pictures .a, h .pictures .b) refl
   same-number (pick line tall) = rw (h .tables) refl
 

@@ -8,7 +8,7 @@ use borrow.Author.Tests.{eqb-true}
 use lib.ListN.{length, length-set}
 use Rattle.logic.proofs.Tests.{by-test, clash}
 use Rattle.refusals.specs.Ladder.{own, done}
-use Rattle.refusals.proofs.Ladder.{Isnt, lowest-none, lowest-not-2, own-none, own-isnt}
+use Rattle.refusals.proofs.Ladder.{Isnt, lowest-none, lowest-not-2, own-none, own-isnt, first-isnt}
 use Rattle.hardware.specs.Tables.{TablesSized, withOam}
 use Rattle.sprite.specs.Pick.{pickable, pickNumber}
 use Rattle.state.specs.declared.State.{State}
@@ -16,12 +16,13 @@ use Rattle.order.specs.Fine.{Fine}
 use Rattle.order.proofs.Clauses.{ordered}
 use Rattle.registers.specs.Registers.{listed}
 use Rattle.registers.specs.Write.{readable}
-use Rattle.oam_bug.proofs.Rows.{length-write, length-read, length-read-write}
+use Rattle.oam_bug.specs.Kinds.{isKind}
+use Rattle.oam_bug.proofs.Rules.{length-corrupted}
 use Rattle.terms.specs.Numbers.{paced, inOam, timely}
 use Rattle.ports.specs.Calls.{bugRow}
 use Rattle.terms.proofs.Pace.{Pace, pace}
 use Rattle.history.specs.Run as run
-use Rattle.history.specs.Run.{World, Call, step, write, read, colour, bugWrite, bugRead, bugReadWrite, shown, pick, number}
+use Rattle.history.specs.Run.{World, Call, step, write, read, colour, bug, shown, pick, number}
 use Rattle.history.specs.Run.{Deed, steps, writes, colours, stores, nothing, deed, Turn, ours, astray, deedOf, swapsBy, swapped, stepping}
 
 -- a step is paced, and tables put in place have their sizes
@@ -66,20 +67,11 @@ module _ (w : World) (h : TablesSized (w .tables)) (f : Fine (w .state)) where
         never2 = lowest-not-2 _ _ refl (other (inOam address) (omega arith));
       }
   known (colour flag) = record { accepted = λ e. tt; never2 = lowest-not-2 _ _ (ordered f) (λ e. omega arith) }
-  known bugWrite =
+  known (bug kind) =
       record {
-        accepted = λ e. on-oam _ (length-write (w .tables .oam) (bugRow (w .state)));
-        never2 = lowest-not-2 _ _ (ordered f) (other (timely (w .state)) (omega arith));
-      }
-  known bugRead =
-      record {
-        accepted = λ e. on-oam _ (length-read (w .tables .oam) (bugRow (w .state)));
-        never2 = lowest-not-2 _ _ (ordered f) (other (timely (w .state)) (omega arith));
-      }
-  known bugReadWrite =
-      record {
-        accepted = λ e. on-oam _ (length-read-write (w .tables .oam) (bugRow (w .state)));
-        never2 = lowest-not-2 _ _ (ordered f) (other (timely (w .state)) (omega arith));
+        accepted = λ e. on-oam _ (length-corrupted kind (w .tables .oam) (bugRow (w .state)));
+        never2 = lowest-not-2 _ _ (ordered f)
+            (first-isnt 2 (own (isKind kind) 4) (own (timely (w .state)) 5) (other (isKind kind) (omega arith)) (other (timely (w .state)) (omega arith)));
       }
   known shown = record { accepted = λ e. tt; never2 = lowest-not-2 _ _ (ordered f) (λ e. omega arith) }
   known (pick line tall) = record { accepted = λ e. tt; never2 = lowest-not-2 _ _ refl (other (pickable line tall) (omega arith)) }

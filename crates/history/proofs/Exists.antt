@@ -27,7 +27,7 @@ use Rattle.beam.specs.Advance.{ends, swaps, advanced}
 use Rattle.beam.proofs.Ways.{advanced-cases}
 use Rattle.step.specs.Step.{lit, settled, stepped}
 use Rattle.step.proofs.Keeps.{settled-fine, settled-same}
-use Rattle.history.specs.Run.{World, step, oam, shown, bugWrite, number, ours, astray, stepping, freshWorld, swapped, blanked}
+use Rattle.history.specs.Run.{World, step, oam, shown, bug, number, ours, astray, stepping, freshWorld, swapped, blanked}
 use Rattle.history.specs.Stored.{Trace, go, trace, begun}
 use Rattle.history.specs.Demand.{AtOrigin, staysOn, staysHidden, Occurs, EveryNumber, Reaches, Reached, Begins, Begun}
 use Rattle.history.proofs.Kept.{lent-fits}
@@ -221,7 +221,7 @@ module _ {base : Base} {t : Trace} (i : Inv base t) where
         pipe = f .pipe;
       }
 
-  five-there : number bugWrite (with′ (scanning (here .state))) ≡ 5
+  five-there : number (bug 0) (with′ (scanning (here .state))) ≡ 5
   unfolding lowest
   five-there = rw (oam-there, ordered scanning-fine) refl
 
@@ -231,7 +231,7 @@ module _ {base : Base} {t : Trace} (i : Inv base t) where
   occurs (suc (suc zero)) h = record { turn = astray shown (with′ (disordered (here .state))) (λ e. absurd (omega (arith, two-there))); number = two-there }
   occurs (suc (suc (suc zero))) h = record { turn = stepping 3; number = three-there }
   occurs (suc (suc (suc (suc zero)))) h = record { turn = ours (oam 160 0); number = four-there }
-  occurs (suc (suc (suc (suc (suc zero))))) h = record { turn = astray bugWrite (with′ (scanning (here .state))) (λ e. absurd (omega (arith, five-there))); number = five-there }
+  occurs (suc (suc (suc (suc (suc zero))))) h = record { turn = astray (bug 0) (with′ (scanning (here .state))) (λ e. absurd (omega (arith, five-there))); number = five-there }
   occurs (suc (suc (suc (suc (suc (suc n)))))) h = absurd (omega arith)
 
 pub every-number : EveryNumber

@@ -11,6 +11,8 @@ pub mod Deeds
 pub mod Kept
 -- what the promises of `ppu` say of a call is what specs/Public says
 pub mod Public
+-- the one corruption call stands for the three
+pub mod AsBefore
 -- the start of a step, place by place
 pub mod Views
 -- where a run can stand, and the draws of a step from there

@@ -18,15 +18,14 @@ use Rattle.sprite.specs.Pick.{pickOf}
 use Rattle.sprite.specs.declared.Picked.{Picked}
 use Rattle.state.specs.declared.State.{State}
 use Rattle.memory.specs.Fresh.{freshState, cleared}
-use Rattle.oam_bug.specs.Corruption.{writeCorrupted, readCorrupted, readWriteCorrupted}
-use Rattle.terms.specs.Numbers.{startNumber, bugNumber, shownNumber}
-use Rattle.ports.specs.Calls.{readAnswer, colourAnswer, VramWrite, OamWrite, Corruption, bugRow, Shown}
+use Rattle.terms.specs.Numbers.{startNumber, shownNumber}
+use Rattle.ports.specs.Calls.{readAnswer, colourAnswer, VramWrite, OamWrite, OamBug, Shown}
 use Rattle.ppu.specs.Calls.{Start, Step, RegisterWrite}
 use Rattle.ports.specs.declared.Answer.{Answer}
 use Rattle.ppu.specs.declared.StepAnswer.{StepAnswer}
 use Rattle.ports.specs.declared.ReadAnswer.{ReadAnswer}
 use Rattle.history.specs.Run as run
-use Rattle.history.specs.Run.{World, Call, step, write, read, colour, bugWrite, bugRead, bugReadWrite, shown, pick, number}
+use Rattle.history.specs.Run.{World, Call, step, write, read, colour, bug, shown, pick, number}
 use Rattle.history.specs.Run.{Deed, steps, writes, colours, stores, nothing, deed, does, freshWorld}
 use Rattle.history.specs.Public.{world, Performs, Stepped, Started, Writes, Reads, WritesVram, WritesOam, Colours, Corrupts}
 use Rattle.history.specs.Public.{Asks, Picks}
@@ -144,27 +143,10 @@ pub oam-performs : {oam oam′ : List ℕ} {address value number : ℕ}
 oam-performs {oam} {address = address} {value} d s vram p =
     changes (run.oam address value) (world s (tables vram oam) p) (tables vram) _ _ refl refl (d .number) refl (d .written)
 
--- a corruption whose call does what its rule says
-corrupts : (c : Call) {rule : List ℕ → ℕ → List ℕ} {s : State} {oam oam′ : List ℕ} {r : Answer}
-    → ((vram : List ℕ) → deed c s (tables vram oam) ≡ stores (tables vram (rule oam (bugRow s))))
-    → ((vram : List ℕ) (p : Pictures) → bugNumber s oam ≡ number c (world s (tables vram oam) p))
-    → Corruption rule s oam r oam′ → Corrupts c s oam r oam′
-corrupts c {rule} {s} {oam} does same d vram p =
-    let e = same vram p in
-    changes c (world s (tables vram oam) p) (tables vram) (rule oam (bugRow s)) oam (does vram) refl (d .number ∙ e) (d .state)
-    (rw e at (d .corrupted))
-
-pub bug-write-performs : {s : State} {oam oam′ : List ℕ} {r : Answer}
-    → Corruption writeCorrupted s oam r oam′ → Corrupts bugWrite s oam r oam′
-bug-write-performs = corrupts bugWrite (λ vram. refl) (λ vram p. refl)
-
-pub bug-read-performs : {s : State} {oam oam′ : List ℕ} {r : Answer}
-    → Corruption readCorrupted s oam r oam′ → Corrupts bugRead s oam r oam′
-bug-read-performs = corrupts bugRead (λ vram. refl) (λ vram p. refl)
-
-pub bug-read-write-performs : {s : State} {oam oam′ : List ℕ} {r : Answer}
-    → Corruption readWriteCorrupted s oam r oam′ → Corrupts bugReadWrite s oam r oam′
-bug-read-write-performs = corrupts bugReadWrite (λ vram. refl) (λ vram p. refl)
+pub bug-performs : {kind : ℕ} {s : State} {oam oam′ : List ℕ} {r : Answer}
+    → OamBug kind s oam r oam′ → Corrupts kind s oam r oam′
+bug-performs {kind} {s} {oam} d vram p =
+    changes (bug kind) (world s (tables vram oam) p) (tables vram) _ _ refl refl (d .number) (d .state) (d .corrupted)
 
 -- the bytes of the picture chosen
 chosen-bytes : (k : ℕ) (a b : RefT (List ℕ)) → now (chosen k a b) ≡ shownOf k (pictures (now a) (now b))

@@ -23,7 +23,7 @@ use Rattle.ports.specs.declared.Answer.{Answer}
 use Rattle.ppu.specs.declared.StepAnswer.{StepAnswer}
 use Rattle.ports.specs.declared.ReadAnswer.{ReadAnswer}
 use Rattle.history.specs.Run as run
-use Rattle.history.specs.Run.{World, Call, step, write, read, colour, shown, pick, ours, perform, freshWorld}
+use Rattle.history.specs.Run.{World, Call, step, write, read, colour, bug, shown, pick, ours, perform, freshWorld}
 
 abbrev pub world : State → Tables → Pictures → World
 world s t p = record { state = s; tables = t; pictures = p }
@@ -72,11 +72,11 @@ abbrev pub Colours : State → Bool → Answer → Type 0
 Colours s flag r =
     (t : Tables) (p : Pictures) → Performs (colour flag) (world s t p) (r .number) (world (r .state) t p)
 
--- a corruption, by its call
-abbrev pub Corrupts : Call → State → List ℕ → Answer → List ℕ → Type 0
-Corrupts c s oam r oam′ =
+-- a corruption, by its kind
+abbrev pub Corrupts : ℕ → State → List ℕ → Answer → List ℕ → Type 0
+Corrupts kind s oam r oam′ =
     (vram : List ℕ) (p : Pictures)
-    → Performs c (world s (tables vram oam) p) (r .number) (world (r .state) (tables vram oam′) p)
+    → Performs (bug kind) (world s (tables vram oam) p) (r .number) (world (r .state) (tables vram oam′) p)
 
 -- the picture asked for: where its number is 0 the very picture lent, with the bytes of the picture shown; else the empty part
 pub record Pictured (w : World) (a b r : RefT (List ℕ)) : Type 0 where

@@ -13,12 +13,12 @@ use Rattle.state.specs.declared.State.{State}
 use Rattle.memory.specs.Fresh.{freshState}
 use Rattle.memory.specs.Writes.{vramWritten, oamWritten}
 use Rattle.registers.specs.Write.{kept, blanks, stateWritten, picturesWritten, colourSet}
-use Rattle.oam_bug.specs.Corruption.{writeCorrupted, readCorrupted, readWriteCorrupted}
+use Rattle.oam_bug.specs.Kinds.{corrupted}
 use Rattle.sprite.specs.Pick.{pickNumber}
 use Rattle.draw.specs.declared.Shot.{Shot}
 use Rattle.beam.specs.Advance.{swaps}
 use Rattle.step.specs.Step.{lit, stepped, shotsOf, picturesAfter}
-use Rattle.terms.specs.Numbers.{stepNumber, writeNumber, readNumber, vramNumber, oamNumber, colourNumber, bugNumber, shownNumber}
+use Rattle.terms.specs.Numbers.{stepNumber, writeNumber, readNumber, vramNumber, oamNumber, colourNumber, kindNumber, shownNumber}
 use Rattle.ports.specs.Calls.{bugRow}
 
 -- the state and what is lent
@@ -35,7 +35,7 @@ pub data Call : Type 0 where
   vram : ℕ → ℕ → Call
   oam : ℕ → ℕ → Call
   colour : Bool → Call
-  bugWrite bugRead bugReadWrite : Call
+  bug : ℕ → Call
   shown : Call
   pick : ℕ → ℕ → Call
 
@@ -47,9 +47,7 @@ number (read address) w = readNumber (w .state) address
 number (vram address value) w = vramNumber (w .state) (w .tables .vram)
 number (oam address value) w = oamNumber (w .tables .oam) address
 number (colour flag) w = colourNumber (w .state)
-number bugWrite w = bugNumber (w .state) (w .tables .oam)
-number bugRead w = bugNumber (w .state) (w .tables .oam)
-number bugReadWrite w = bugNumber (w .state) (w .tables .oam)
+number (bug kind) w = kindNumber (w .state) (w .tables .oam) kind
 number shown w = shownNumber (w .state) (w .pictures)
 number (pick line tall) w = pickNumber (w .tables .oam) line tall
 
@@ -69,9 +67,7 @@ deed (read address) s t = nothing
 deed (vram address value) s t = stores (withVram t (vramWritten (t .vram) (s .regs .vbk) address value))
 deed (oam address value) s t = stores (withOam t (oamWritten (t .oam) address value))
 deed (colour flag) s t = colours flag
-deed bugWrite s t = stores (withOam t (writeCorrupted (t .oam) (bugRow s)))
-deed bugRead s t = stores (withOam t (readCorrupted (t .oam) (bugRow s)))
-deed bugReadWrite s t = stores (withOam t (readWriteCorrupted (t .oam) (bugRow s)))
+deed (bug kind) s t = stores (withOam t (corrupted kind (t .oam) (bugRow s)))
 deed shown s t = nothing
 deed (pick line tall) s t = nothing
 

@@ -3,7 +3,6 @@
 // proved of the functions that a caller calls. Nothing is added to them.
 ghost use Rattle.hardware.specs.Tables.{tables};
 ghost use Rattle.lcd.specs.Pictures.{pictures};
-ghost use Rattle.history.specs.Run.{bugWrite, bugRead, bugReadWrite};
 ghost use Rattle.history.specs.Public.{world, Started, Stepped, Writes, Reads, WritesVram, WritesOam, Colours};
 ghost use Rattle.history.specs.Public.{Corrupts, Asks, Picks};
 use hardware::Machine;
@@ -66,22 +65,10 @@ pub fn set_colour(s: State, flag: bool) -> Answer
     ppu::set_colour(s, flag)
 }
 
-pub fn oam_bug_write(s: State, oam: &mut [u8]) -> Answer
-    ensures { λ r. ⌜ Corrupts bugWrite s (now (oam .entry)) r (now (oam .exit)) ⌝ }
+pub fn oam_bug(s: State, oam: &mut [u8], kind: u8) -> Answer
+    ensures { λ r. ⌜ Corrupts kind s (now (oam .entry)) r (now (oam .exit)) ⌝ }
 {
-    ppu::oam_bug_write(s, oam)
-}
-
-pub fn oam_bug_read(s: State, oam: &mut [u8]) -> Answer
-    ensures { λ r. ⌜ Corrupts bugRead s (now (oam .entry)) r (now (oam .exit)) ⌝ }
-{
-    ppu::oam_bug_read(s, oam)
-}
-
-pub fn oam_bug_read_write(s: State, oam: &mut [u8]) -> Answer
-    ensures { λ r. ⌜ Corrupts bugReadWrite s (now (oam .entry)) r (now (oam .exit)) ⌝ }
-{
-    ppu::oam_bug_read_write(s, oam)
+    ppu::oam_bug(s, oam, kind)
 }
 
 pub fn screen_buffer<'a>(s: State, a: &'a [u8], b: &'a [u8]) -> &'a [u8]

@@ -35,7 +35,7 @@ unfolding rowCopied
 length-row-copied l p r = rw length-with-row
 
 -- as long as another
-abbrev AsLong : List ℕ → List ℕ → Type 0
+abbrev pub AsLong : List ℕ → List ℕ → Type 0
 AsLong l x = length x ≡ length l
 
 pub length-write : (l : List ℕ) (r : ℕ) → length (writeCorrupted l r) ≡ length l

@@ -1,3 +1,4 @@
 -- What the contracts of `oam_bug` cite.
 pub mod Words
 pub mod Corruption
+pub mod Kinds

@@ -1,5 +1,6 @@
 // The OAM corruption of mode 2: 20 rows of four words.
 ghost use mathlib.Core.Path.{_≡_};
+ghost use mathlib.Core.Bool.{true};
 ghost use Prim.Native.Nat.{_+_, _*_, _<_, _≤_};
 ghost use lib.ListN.{length};
 ghost use Rattle.hardware.specs.Tables.{oamBytes};
@@ -7,6 +8,7 @@ ghost use Rattle.oam_bug.specs.Words.{oamRows, wordPlace, wordOf, withWo
 ghost use Rattle.oam_bug.specs.Corruption.{corruptedRow, writeWord, readWord, readWriteWord};
 ghost use Rattle.oam_bug.specs.Corruption.{beforeCorrupted, spread, aroundCorrupted};
 ghost use Rattle.oam_bug.specs.Corruption.{writeCorrupted, readCorrupted, readWriteCorrupted};
+ghost use Rattle.oam_bug.specs.Kinds.{isKind, corrupted};
 
 // The row that an access at a cycle of the line corrupts.
 pub fn corrupted_row(mode: u8, cycle: u16) -> u8
@@ -102,7 +104,7 @@ fn copy_row(oam: &mut [u8], from: u8, to: u8)
 }
 
 // A write while OAM is being searched.
-pub fn corrupt_write(oam: &mut [u8], row: u8)
+fn corrupt_write(oam: &mut [u8], row: u8)
     requires { ⌜ (length (now oam) ≡ oamBytes) × (row < oamRows) ⌝ }
     ensures { λ _. ⌜ now (oam .exit) ≡ writeCorrupted (now (oam .entry)) row ⌝ }
 {
@@ -116,7 +118,7 @@ pub fn corrupt_write(oam: &mut [u8], row: u8)
 }
 
 // A read while OAM is being searched.
-pub fn corrupt_read(oam: &mut [u8], row: u8)
+fn corrupt_read(oam: &mut [u8], row: u8)
     requires { ⌜ (length (now oam) ≡ oamBytes) × (row < oamRows) ⌝ }
     ensures { λ _. ⌜ now (oam .exit) ≡ readCorrupted (now (oam .entry)) row ⌝ }
 {
@@ -166,10 +168,29 @@ fn corrupt_around(oam: &mut [u8], row: u8)
 }
 
 // A read and a write in one cycle while OAM is being searched.
-pub fn corrupt_read_write(oam: &mut [u8], row: u8)
+fn corrupt_read_write(oam: &mut [u8], row: u8)
     requires { ⌜ (length (now oam) ≡ oamBytes) × (row < oamRows) ⌝ }
     ensures { λ _. ⌜ now (oam .exit) ≡ readWriteCorrupted (now (oam .entry)) row ⌝ }
 {
     corrupt_around(oam, row);
     corrupt_read(oam, row);
+}
+
+// Whether there is a corruption of a kind: 0 a write, 1 a read, 2 a read and a write in one cycle.
+pub fn is_kind(kind: u8) -> bool
+    ensures { λ r. ⌜ r ≡ isKind kind ⌝ }
+{
+    kind <= 2
+}
+
+// The corruption of a kind.
+pub fn corrupt(oam: &mut [u8], row: u8, kind: u8)
+    requires { ⌜ (length (now oam) ≡ oamBytes) × (row < oamRows) × (isKind kind ≡ true) ⌝ }
+    ensures { λ _. ⌜ now (oam .exit) ≡ corrupted kind (now (oam .entry)) row ⌝ }
+{
+    match kind {
+        0 => corrupt_write(oam, row),
+        1 => corrupt_read(oam, row),
+        _ => corrupt_read_write(oam, row),
+    }
 }

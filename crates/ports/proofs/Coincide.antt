@@ -8,7 +8,7 @@ use Rattle.lcd.specs.Pictures.{pictures}
 use Rattle.sprite.specs.Pick.{pickOf}
 use Rattle.sprite.specs.declared.Picked.{Picked}
 use Rattle.state.specs.declared.State.{State}
-use Rattle.ports.specs.Calls.{readAnswer, colourAnswer, VramWrite, OamWrite, Corruption, shows, Shown}
+use Rattle.ports.specs.Calls.{readAnswer, colourAnswer, VramWrite, OamWrite, OamBug, shows, Shown}
 use Rattle.ports.specs.declared.Answer.{Answer}
 use Rattle.ports.specs.declared.ReadAnswer.{ReadAnswer}
 use Rattle.ports.proofs.Answers.{same-answer}
@@ -32,10 +32,9 @@ pub oam-coincides : {oam x y : List ℕ} {address value r q : ℕ}
     → OamWrite oam address value r x → OamWrite oam address value q y → (r ≡ q) × (x ≡ y)
 oam-coincides e f = (one (e .number) (f .number), one (e .written) (f .written))
 
--- each of the three corruptions, by its rule
-pub corruption-coincides : {rule : List ℕ → ℕ → List ℕ} {s : State} {oam x y : List ℕ} {r q : Answer}
-    → Corruption rule s oam r x → Corruption rule s oam q y → (r ≡ q) × (x ≡ y)
-corruption-coincides e f =
+pub oam-bug-coincides : {kind : ℕ} {s : State} {oam x y : List ℕ} {r q : Answer}
+    → OamBug kind s oam r x → OamBug kind s oam q y → (r ≡ q) × (x ≡ y)
+oam-bug-coincides e f =
     (same-answer (one (e .number) (f .number)) (one (e .state) (f .state)), one (e .corrupted) (f .corrupted))
 
 -- the picture shown: the same bytes at the same place, which is all of a part that a machine can see; a picture given is one reference

@@ -12,7 +12,8 @@ use Rattle.state.specs.declared.State.{State}
 use Rattle.memory.specs.Writes.{vramWritten, oamWritten}
 use Rattle.registers.specs.Write.{registerRead, colourSet}
 use Rattle.oam_bug.specs.Corruption.{corruptedRow}
-use Rattle.terms.specs.Numbers.{readNumber, shownNumber, vramNumber, oamNumber, colourNumber, bugNumber}
+use Rattle.oam_bug.specs.Kinds.{corrupted}
+use Rattle.terms.specs.Numbers.{readNumber, shownNumber, vramNumber, oamNumber, colourNumber, bugNumber, kindNumber}
 use Rattle.ports.specs.declared.Answer.{Answer}
 use Rattle.ports.specs.declared.ReadAnswer.{ReadAnswer}
 
@@ -47,6 +48,12 @@ pub record Corruption (rule : List ℕ → ℕ → List ℕ) (s : State) (oam : 
   pub number : r .number ≡ bugNumber s oam
   pub state : r .state ≡ s
   pub corrupted : oam′ ≡ cond (done (bugNumber s oam)) (rule oam (bugRow s)) oam
+
+-- the one call: a corruption of a kind. At each kind it promises what `Corruption` does by that kind's rule (proofs/AsBefore)
+pub record OamBug (kind : ℕ) (s : State) (oam : List ℕ) (r : Answer) (oam′ : List ℕ) : Type 0 where
+  pub number : r .number ≡ kindNumber s oam kind
+  pub state : r .state ≡ s
+  pub corrupted : oam′ ≡ cond (done (kindNumber s oam kind)) (corrupted kind oam (bugRow s)) oam
 
 -- a picture can be shown: both have their length, and the state is in order
 abbrev pub shows : State → Pictures → Bool

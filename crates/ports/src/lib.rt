@@ -1,9 +1,8 @@
 // The public calls that touch no picture, or only show one: reads and writes of the ports, VRAM and OAM, the colour flag, OAM
 // corruption, the picture shown, the pick; with their refusals. No call asks anything of its caller. `ppu` hands them on.
 ghost use mathlib.Core.Path.{_≡_};
-ghost use Rattle.oam_bug.specs.Corruption.{writeCorrupted, readCorrupted, readWriteCorrupted};
 ghost use Rattle.sprite.specs.Pick.{pickOf};
-ghost use Rattle.ports.specs.Calls.{readAnswer, colourAnswer, VramWrite, OamWrite, Corruption, Shown};
+ghost use Rattle.ports.specs.Calls.{readAnswer, colourAnswer, VramWrite, OamWrite, OamBug, Shown};
 use sprite::Picked;
 use state::State;
 
@@ -76,39 +75,16 @@ pub fn set_colour(s: State, flag: bool) -> Answer
     Answer { number, state }
 }
 
-// OAM corruption by a write. Refused by 1, 2, 5, as the two below.
-pub fn oam_bug_write(s: State, oam: &mut [u8]) -> Answer
-    ensures { λ r. ⌜ Corruption writeCorrupted s (now (oam .entry)) r (now (oam .exit)) ⌝ }
+// OAM corruption: kind 0 by a write, 1 by a read, 2 by a read and a write in one cycle. Refused by 1, 2, 4, 5.
+pub fn oam_bug(s: State, oam: &mut [u8], kind: u8) -> Answer
+    ensures { λ r. ⌜ OamBug kind s (now (oam .entry)) r (now (oam .exit)) ⌝ }
 {
-    let number = terms::bug_number(s, oam);
+    let number = terms::kind_number(s, oam, kind);
     if number != 0 {
         return Answer { number, state: s };
     }
-    oam_bug::corrupt_write(oam, oam_bug::corrupted_row(s.regs.stat % 4, s.beam.cycle));
-    Answer { number, state: s }
-}
-
-// OAM corruption by a read.
-pub fn oam_bug_read(s: State, oam: &mut [u8]) -> Answer
-    ensures { λ r. ⌜ Corruption readCorrupted s (now (oam .entry)) r (now (oam .exit)) ⌝ }
-{
-    let number = terms::bug_number(s, oam);
-    if number != 0 {
-        return Answer { number, state: s };
-    }
-    oam_bug::corrupt_read(oam, oam_bug::corrupted_row(s.regs.stat % 4, s.beam.cycle));
-    Answer { number, state: s }
-}
-
-// OAM corruption by a read and a write in one cycle.
-pub fn oam_bug_read_write(s: State, oam: &mut [u8]) -> Answer
-    ensures { λ r. ⌜ Corruption readWriteCorrupted s (now (oam .entry)) r (now (oam .exit)) ⌝ }
-{
-    let number = terms::bug_number(s, oam);
-    if number != 0 {
-        return Answer { number, state: s };
-    }
-    oam_bug::corrupt_read_write(oam, oam_bug::corrupted_row(s.regs.stat % 4, s.beam.cycle));
+    let row = oam_bug::corrupted_row(s.regs.stat % 4, s.beam.cycle);
+    oam_bug::corrupt(oam, row, kind);
     Answer { number, state: s }
 }
 

@@ -1,9 +1,10 @@
 -- What a number says of the tests, and which numbers are never given.
 use mathlib.Core.Path.{_≡_, refl}
-use mathlib.Core.Bool.{Bool, true, false}
+use mathlib.Core.Bool.{Bool, true, false, cond}
 use Prim.Native.Nat.{ℕ, _<_}
 use native.Mathlib.Omega.{arith}
-use Rattle.refusals.specs.Ladder.{lowest, own}
+use borrow.Author.Tests.{eqb-true, eq-eqb}
+use Rattle.refusals.specs.Ladder.{lowest, own, done, first}
 use Rattle.logic.proofs.Tests.{by-test, clash}
 
 -- another number
@@ -40,3 +41,14 @@ own-none false h e = absurd (omega arith)
 pub own-isnt : (k : ℕ) (passed : Bool) {n : ℕ} → 0 < k → Isnt k n → Isnt k (own passed n)
 own-isnt k true h i e = omega arith
 own-isnt k false h i e = i e
+
+-- two own numbers: none is given where neither is
+pub first-none : (lower higher : ℕ) → first lower higher ≡ 0 → (lower ≡ 0) × (higher ≡ 0)
+first-none lower higher = by (done lower) refl
+  where
+    by : (t : Bool) → done lower ≡ t → cond t higher lower ≡ 0 → (lower ≡ 0) × (higher ≡ 0)
+    by true t e = (eqb-true lower 0 t, e)
+    by false t e = absurd (clash (eq-eqb lower 0 e) t)
+
+pub first-isnt : (k lower higher : ℕ) → Isnt k lower → Isnt k higher → Isnt k (first lower higher)
+first-isnt k lower higher l h = by-test (Isnt k) (done lower) (λ t. h) (λ t. l)

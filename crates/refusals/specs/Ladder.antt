@@ -14,3 +14,7 @@ own passed number = cond passed 0 number
 -- 0: done
 abbrev pub done : ℕ → Bool
 done number = eqb number 0
+
+-- of a call's two own numbers the lower comes first
+abbrev pub first : ℕ → ℕ → ℕ
+first lower higher = cond (done lower) higher lower

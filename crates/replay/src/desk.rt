@@ -165,13 +165,9 @@ fn set_colour(desk: Desk, flag: u8) -> Reply {
     moved(desk, set.number, set.state)
 }
 
-// A corruption of OAM, by its request's number.
-fn corrupt(desk: Desk, oam: &mut [u8; Machine::OAM_BYTES], op: u8) -> Reply {
-    let corrupted = match op {
-        8 => ppu::oam_bug_write(desk.state, oam),
-        9 => ppu::oam_bug_read(desk.state, oam),
-        _ => ppu::oam_bug_read_write(desk.state, oam),
-    };
+// A corruption of OAM.
+fn oam_bug(desk: Desk, oam: &mut [u8; Machine::OAM_BYTES], kind: u8) -> Reply {
+    let corrupted = ppu::oam_bug(desk.state, oam, kind);
     moved(desk, corrupted.number, corrupted.state)
 }
 
@@ -249,7 +245,7 @@ fn small(
         5 => write_vram(desk, vram, q),
         6 => write_oam(desk, oam, q),
         7 => set_colour(desk, q[1]),
-        8..=10 => corrupt(desk, oam, q[0]),
+        8 => oam_bug(desk, oam, q[1]),
         12 => digested(desk, canon::digest_of(desk.state)),
         13 => pick(desk, oam, q[1], q[2]),
         14 => slot(desk, q[1]),

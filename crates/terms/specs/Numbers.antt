@@ -4,7 +4,7 @@ use mathlib.Core.Path.{_≡_}
 use mathlib.Core.Bool.{Bool, true, not, _&&_, _||_}
 use mathlib.Core.List.{List}
 use lib.Dec.{eqb, ltb, leb}
-use Rattle.refusals.specs.Ladder.{lowest, own}
+use Rattle.refusals.specs.Ladder.{lowest, own, first}
 use Rattle.hardware.specs.Tables.{oamBytes, Tables, vramFits, oamFits, tablesFit}
 use Rattle.lcd.specs.Pictures.{Pictures, picturesFit}
 use Rattle.state.specs.With.{modeOf}
@@ -13,12 +13,14 @@ use Rattle.state.specs.declared.State.{State}
 use Rattle.order.specs.Order.{inOrder}
 use Rattle.registers.specs.Registers.{listed}
 use Rattle.registers.specs.Write.{readable}
+use Rattle.oam_bug.specs.Kinds.{isKind}
 
 -- 3: a step is 2, or 4 at a multiple of 4
 abbrev pub paced : ℕ → ℕ → Bool
 paced cycle n = eqb n 2 || (eqb n 4 && eqb (cycle % 4) 0)
 
--- 4: a register address that is listed for the write (`listed`, in the table); an OAM address with a low byte below 160
+-- 4: a register address that is listed for the write (`listed`, in the table); an OAM address with a low byte below 160; a kind of
+-- corruption that there is (`isKind`)
 abbrev pub inOam : ℕ → Bool
 inOam address = ltb (address % 256) oamBytes
 
@@ -48,6 +50,10 @@ oamNumber oam address = lowest (oamFits oam) true (own (inOam address) 4)
 abbrev pub colourNumber : State → ℕ
 colourNumber s = lowest true (inOrder s) 0
 
+abbrev pub kindNumber : State → List ℕ → ℕ → ℕ
+kindNumber s oam kind = lowest (oamFits oam) (inOrder s) (first (own (isKind kind) 4) (own (timely s) 5))
+
+-- what it was while each kind of corruption had a call of its own: no call has it now, and each kind is held against it
 abbrev pub bugNumber : State → List ℕ → ℕ
 bugNumber s oam = lowest (oamFits oam) (inOrder s) (own (timely s) 5)
 

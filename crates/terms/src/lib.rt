@@ -6,7 +6,7 @@ ghost use Rattle.hardware.specs.Tables.{tables, tablesFit};
 ghost use Rattle.lcd.specs.Pictures.{pictures, picturesFit};
 ghost use Rattle.registers.specs.Registers.{listed};
 ghost use Rattle.terms.specs.Numbers.{paced, timely, stepNumber, writeNumber, readNumber};
-ghost use Rattle.terms.specs.Numbers.{vramNumber, oamNumber, colourNumber, bugNumber, shownNumber, Graded};
+ghost use Rattle.terms.specs.Numbers.{vramNumber, oamNumber, colourNumber, kindNumber, shownNumber, Graded};
 use hardware::Machine;
 use state::State;
 
@@ -135,14 +135,16 @@ pub fn colour_number(s: State) -> u8
     refusals::lowest(true, order::in_order(s), 0)
 }
 
-// The number of a corruption: refused by 1, 2, 5.
-pub fn bug_number(s: State, oam: &[u8]) -> u8
-    ensures { λ r. ⌜ Graded s (bugNumber s (now (oam .entry))) r ⌝ }
+// The number of a corruption of a kind: refused by 1, 2, 4, 5.
+pub fn kind_number(s: State, oam: &[u8], kind: u8) -> u8
+    ensures { λ r. ⌜ Graded s (kindNumber s (now (oam .entry)) kind) r ⌝ }
 {
+    let lower = refusals::own(oam_bug::is_kind(kind), 4);
+    let higher = refusals::own(is_timely(s), 5);
     refusals::lowest(
         oam.len() == Machine::OAM_BYTES,
         order::in_order(s),
-        refusals::own(is_timely(s), 5),
+        refusals::first(lower, higher),
     )
 }
 
