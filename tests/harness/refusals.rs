@@ -282,15 +282,17 @@ fn broken(s: &State, clause: usize) -> State {
 /// The ladder itself: lengths before the order of the state, that before the call's own test, of its two own numbers the lower
 /// first; on every input.
 pub fn ladder(bench: &mut Bench) -> Result<(), String> {
+    let mut hold = |wanted: u8, got: &dyn Fn() -> u8, inputs: &dyn Fn() -> String| {
+        bench.cases += 1;
+        same(wanted, got, inputs)
+    };
     for number in 0..=255 {
         for passed in [false, true] {
-            let wanted = if passed { 0 } else { number };
-            same(
-                wanted,
-                || own(passed, number),
-                || format!("own number {}, passed {}", number, passed),
+            hold(
+                if passed { 0 } else { number },
+                &|| own(passed, number),
+                &|| format!("own number {}, passed {}", number, passed),
             )?;
-            bench.cases += 1;
         }
         for (sized, ordered, wanted) in [
             (false, false, 1),
@@ -298,21 +300,15 @@ pub fn ladder(bench: &mut Bench) -> Result<(), String> {
             (true, false, 2),
             (true, true, number),
         ] {
-            same(
-                wanted,
-                || lowest(sized, ordered, number),
-                || format!("sized {}, ordered {}, own {}", sized, ordered, number),
-            )?;
-            bench.cases += 1;
+            hold(wanted, &|| lowest(sized, ordered, number), &|| {
+                format!("sized {}, ordered {}, own {}", sized, ordered, number)
+            })?;
         }
         for higher in 0..=255 {
             let wanted = [higher, number][(number != 0) as usize];
-            same(
-                wanted,
-                || first(number, higher),
-                || format!("own numbers {} and {}", number, higher),
-            )?;
-            bench.cases += 1;
+            hold(wanted, &|| first(number, higher), &|| {
+                format!("own numbers {} and {}", number, higher)
+            })?;
         }
     }
     Ok(())

@@ -3,3 +3,5 @@ pub mod Run
 pub mod Public
 pub mod Stored
 pub mod Demand
+-- the one corruption call stands for the three
+pub mod AsBefore

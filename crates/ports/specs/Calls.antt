@@ -49,7 +49,7 @@ pub record Corruption (rule : List ℕ → ℕ → List ℕ) (s : State) (oam : 
   pub state : r .state ≡ s
   pub corrupted : oam′ ≡ cond (done (bugNumber s oam)) (rule oam (bugRow s)) oam
 
--- the one call: a corruption of a kind. At each kind it promises what `Corruption` does by that kind's rule (proofs/AsBefore)
+-- the one call: a corruption of a kind. At each kind it promises what `Corruption` does by that kind's rule (specs/AsBefore)
 pub record OamBug (kind : ℕ) (s : State) (oam : List ℕ) (r : Answer) (oam′ : List ℕ) : Type 0 where
   pub number : r .number ≡ kindNumber s oam kind
   pub state : r .state ≡ s
