@@ -40,7 +40,8 @@ def declarations(text):
     for block in text.split("\n\n"):
         block = re.sub(r"^ *module _.*? where$", "", block, flags=re.M | re.S)
         lines = [line for line in block.splitlines() if line.strip() and not re.match(r"\s*(--|use |pub mod )", line)]
-        if lines and (name := DECLARED.match(lines[0].strip())):
+        named = [line for line in lines if not line.startswith("infix")]
+        if named and (name := DECLARED.match(named[0].strip())):
             yield name[1], "\n".join(lines)
 
 

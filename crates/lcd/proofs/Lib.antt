@@ -3,3 +3,5 @@
 pub mod Chosen
 -- the lengths of the two pictures, from the test and back
 pub mod Pictures
+-- sums of shifts
+pub mod Shifts

@@ -22,17 +22,21 @@ fn quarter_of(sum: u16) -> u8
     if sum < 960 { (sum / 4) as u8 } else { 240 }
 }
 
-// What a colour looks like on the screen.
+// What a colour looks like on the screen, by shifts and adds alone. Of each sum 16 times its own channel, and the rest from sums of two
+// channels. Each of those serves two of the three: an optimiser gathers the shifts of one channel into a product, and here it finds none.
 pub fn mixed(c: Color) -> Rgb
     ensures { λ r. ⌜ r ≡ mix c ⌝ }
 {
     let r = c.r as u16;
     let g = c.g as u16;
     let b = c.b as u16;
+    let rg = r + g;
+    let gb = g + b;
+    let rb = r + b;
     Rgb {
-        red: quarter_of(26 * r + 4 * g + 2 * b),
-        green: quarter_of(24 * g + 8 * b),
-        blue: quarter_of(6 * r + 4 * g + 22 * b),
+        red: quarter_of((r << 4) + ((r + rg) << 2) + (rb << 1)),
+        green: quarter_of((g << 4) + (gb << 3)),
+        blue: quarter_of((b << 4) + (rb << 2) + (gb << 1) + (rg << 1)),
     }
 }
 
