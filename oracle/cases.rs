@@ -448,8 +448,36 @@ fn column_case(run: &mut Named) {
     ));
 }
 
+/// The display off and on again.
+fn off_and_on(run: &mut Run) {
+    run.register(0x40, ON & 0x7F);
+    run.register(0x40, ON);
+}
+
+/// Steps of 2 to column 100 of a line, or a line on; the column. With SCX 1 it is met, with SCX 0 it is 101.
+fn to_column_100(run: &mut Run) -> u8 {
+    for _ in 0..LINE {
+        if line_and_x(run).1 >= 100 {
+            break;
+        }
+        run.step(2);
+    }
+    line_and_x(run).1
+}
+
+/// Steps to the next swap: its mark and count. Without a swap in a frame the count is 0.
+fn next_swap(run: &mut Run, cycles: u8) -> (u8, u16) {
+    for _ in 0..FRAME * 4 / cycles as u32 {
+        let answer = run.step(cycles);
+        if answer[5] != 0 {
+            return (answer[6], u16::from_le_bytes([answer[8], answer[9]]));
+        }
+    }
+    (0, 0)
+}
+
 /// The torn picture: off and on at column 100 of line 0 of a dark picture. Line 0 of the next begins at column 100, white
-/// before it, and its mark is no. Leaves the torn picture shown. Without a swap in a frame the count is 0.
+/// before it, and its mark is no. Leaves the torn picture shown.
 fn torn(run: &mut Run) -> (u8, u8, u16) {
     run.call(&[1, 1, 0]);
     for k in 0..16 {
@@ -457,22 +485,10 @@ fn torn(run: &mut Run) -> (u8, u8, u16) {
     }
     run.register(0x43, 1);
     steps(run, TO_LINE_0);
-    for _ in 0..LINE {
-        if line_and_x(run).1 >= 100 {
-            break;
-        }
-        run.step(2);
-    }
-    let (_, x) = line_and_x(run);
-    run.register(0x40, ON & 0x7F);
-    run.register(0x40, ON);
-    for _ in 0..2 * FRAME {
-        let answer = run.step(2);
-        if answer[5] != 0 {
-            return (x, answer[6], u16::from_le_bytes([answer[8], answer[9]]));
-        }
-    }
-    (x, 0, 0)
+    let x = to_column_100(run);
+    off_and_on(run);
+    let (mark, count) = next_swap(run, 2);
+    (x, mark, count)
 }
 
 /// The columns of a line of the shown picture that are white.
@@ -489,6 +505,54 @@ fn torn_case(run: &mut Named) {
         "true 0",
         format!("{} {}", white(run, 0).into_iter().eq(0..100), below),
     ));
+    let next = next_swap(run, 4);
+    run.end(case("the picture after the torn one: mark, count", "(1, 23040)", format!("{:?}", next)));
+}
+
+/// Whole, but unseen: the first picture after a blanking at LCD x 0, whatever came before that blanking.
+fn unseen_cases(run: &mut Named) {
+    run.call(&[1, 0, 1]);
+    off_and_on(run);
+    let pictures = [next_swap(run, 4), next_swap(run, 4)];
+    run.end(case(
+        "off and on below the picture: marks and counts of the next two pictures",
+        "[(2, 23040), (1, 23040)]",
+        format!("{:?}", pictures),
+    ));
+
+    // Line 0 is behind the draws of mode 3 at cycle 300, and LCD x is 0 again.
+    let to_line_end = |run: &mut Run| steps(run, 75);
+    run.call(&[1, 1, 0]);
+    run.register(0x43, 1);
+    steps(run, TO_LINE_0);
+    to_column_100(run);
+    off_and_on(run);
+    to_line_end(run);
+    off_and_on(run);
+    let picture = next_swap(run, 4);
+    run.end(case(
+        "off and on at column 100, then behind the line: mark and count of the next picture",
+        "(2, 23040)",
+        format!("{:?}", picture),
+    ));
+    run.call(&[1, 1, 0]);
+    run.register(0x43, 1);
+    steps(run, TO_LINE_0);
+    to_line_end(run);
+    off_and_on(run);
+    to_column_100(run);
+    off_and_on(run);
+    let picture = next_swap(run, 4);
+    run.end(case(
+        "off and on behind the line, then at column 100: mark and count of the next picture",
+        "(0, 22940)",
+        format!("{:?}", picture),
+    ));
+    run.register(0x40, ON & 0x7F);
+    run.digests();
+    run.call(&[1, 1, 0]);
+    let blanked = run.machine.blanked;
+    run.end(case("a start of a display that is off: blanked", false, blanked));
 }
 
 /// The torn picture as a PPM file.
@@ -1165,6 +1229,7 @@ fn all(out: &mut dyn Write) -> io::Result<Vec<Case>> {
     }
     column_case(&mut named);
     torn_case(&mut named);
+    unseen_cases(&mut named);
     published_cases(&mut named);
     pan_docs_cases(&mut named);
     let cases = named.cases;

@@ -47,6 +47,9 @@ pub fn corrupt(ppu: &mut Ppu, kind: u8) {
     }
 }
 
+/// The marks of a swap by their numbers.
+pub const MARKS: [&str; 3] = ["no", "whole", "unseen"];
+
 /// Bit 1 for VBlank, bit 2 for STAT.
 pub struct Requests(pub u8);
 
@@ -63,6 +66,8 @@ pub struct Machine {
     pub ppu: Ppu,
     /// Places stored since the last swap or blanking.
     pub count: u16,
+    /// Whether a blanking came since the last swap; a start is none.
+    pub blanked: bool,
     pick: [LookSelected; 10],
     bytes: Vec<u8>,
 }
@@ -79,6 +84,7 @@ impl Machine {
         Machine {
             ppu: Ppu::look_fresh(false, false),
             count: 0,
+            blanked: false,
             pick: [[0; 5]; 10],
             bytes: Vec::new(),
         }
@@ -92,6 +98,7 @@ impl Machine {
             1 => {
                 self.ppu = Ppu::look_fresh(a[1] != 0, a[0] != 0);
                 self.count = 0;
+                self.blanked = false;
             }
             2 => self.step(a[0], &mut answer),
             3 => answer[0] = self.write_register(word, a[2]),
@@ -119,7 +126,7 @@ impl Machine {
             }
             12 => {
                 self.bytes.clear();
-                self.ppu.look_state(self.count, &mut self.bytes);
+                self.ppu.look_state(self.count, self.blanked, &mut self.bytes);
                 let mut digest = Digest::new();
                 digest.take(&self.bytes);
                 answer[8..].copy_from_slice(&digest.0.to_le_bytes());
@@ -173,13 +180,23 @@ impl Machine {
             stat >> 2 & 1,
             self.ppu.read_ly(),
             swapped as u8,
-            (swapped && self.count == WHOLE) as u8,
+            if swapped { self.mark() } else { 0 },
             0,
             count[0],
             count[1],
         ]);
         if swapped {
             self.count = 0;
+            self.blanked = false;
+        }
+    }
+
+    /// The mark of the picture that a swap shows.
+    fn mark(&self) -> u8 {
+        match (self.count == WHOLE, self.blanked) {
+            (false, _) => 0,
+            (true, false) => 1,
+            (true, true) => 2,
         }
     }
 
@@ -191,6 +208,7 @@ impl Machine {
                 ppu.write_lcd_control(value);
                 if blanks {
                     self.count = 0;
+                    self.blanked = true;
                 }
             }
             0xFF41 => ppu.write_lcd_status(value),

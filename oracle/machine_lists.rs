@@ -28,6 +28,8 @@ pub struct Run<'a> {
     /// The place in `STARTS` of the next start, and the calls since the last.
     next_start: usize,
     since_start: u32,
+    /// Whether the next frame of `whole_frame` is to be unseen.
+    next_unseen: bool,
     /// The ops of the last two calls.
     last: [u8; 2],
 }
@@ -53,6 +55,7 @@ impl<'a> Run<'a> {
             steady: false,
             next_start: 0,
             since_start: 0,
+            next_unseen: true,
             last: [0; 2],
         }
     }
@@ -491,16 +494,28 @@ impl<'a> Run<'a> {
         self.strides(LINE, gait);
     }
 
-    /// On to a swap and from it to the next, with the display on, so that the second may have the whole mark; a write now
-    /// and then.
+    /// By turns: off and on at LCD x 0 and to the next swap, so that it is unseen; or on to a swap and from it to the next, with
+    /// the display on, so that the second is whole. A write now and then.
     fn whole_frame(&mut self) {
+        let unseen = self.is_on() && self.next_unseen;
+        self.next_unseen = !unseen;
+        if unseen {
+            // A line of steps of 2 at most.
+            for _ in 0..2 * LINE {
+                if self.machine.ppu.look_lcd().x() == 0 || self.left() == 0 {
+                    break;
+                }
+                self.stride(Gait::Twos);
+            }
+            self.switch_off();
+        }
         if !self.is_on() {
             self.switch_on();
         }
         let (gait, apart) = (self.gait(), 100 + self.random.below(900));
         let gait = if let Gait::Fours = gait { gait } else { Gait::Mixed };
         self.steady = true;
-        for _ in 0..2 {
+        for _ in 0..if unseen { 1 } else { 2 } {
             // A frame of steps of 2 at most.
             for _ in 0..2 * FRAME {
                 if self.left() == 0 || self.stride(gait)[5] != 0 {
@@ -636,9 +651,9 @@ pub fn random(out: &mut dyn Write, seed: u64, count: u64) -> io::Result<()> {
 }
 
 /// The named cases without their long frames; a whole frame outside DMG with a write now and
-/// then; a DMG frame into VBlank; blankings in mid line.
+/// then; a DMG frame after switching off and on; blankings in mid line.
 pub fn sample(out: &mut dyn Write) -> io::Result<()> {
-    let mut run = Run::new(out, 40_000, 4, 0);
+    let mut run = Run::new(out, 42_000, 4, 0);
     cases::short(&mut run);
 
     run.digest_every = 400;
@@ -653,7 +668,9 @@ pub fn sample(out: &mut dyn Write) -> io::Result<()> {
     run.call(&[1, 1, 0]);
     run.dense_scene();
     run.register(0x40, 0x93);
-    run.busy_frame(14 + 144 * LINE + 6, 100);
+    run.register(0x40, 0x13);
+    run.register(0x40, 0x93);
+    run.busy_frame(FRAME - 1, 100);
     run.call(&[11]);
     run.call(&[12]);
 

@@ -33,7 +33,7 @@ const USAGE: &str = "usage: oracle COMMAND
   machine-answer            answers (16 bytes each) to the requests on standard input
   machine-random SEED COUNT COUNT random calls
   machine-sweep SEED STRIDE a write at every cycle, every STRIDE-th case
-  machine-sample            at most 40,000 calls with the sharpest cases
+  machine-sample            at most 42,000 calls with the sharpest cases
   machine-cases             the named cases as text, checked; ends with 1 if a figure differs
   machine-cases-list        the calls of the named cases
   machine-writes            every address of VRAM, OAM and registers, every value of a register

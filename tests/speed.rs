@@ -197,8 +197,9 @@ impl Ready {
     /// Ends with 1 unless both sides answered alike and hold the same state, pictures, OAM and VRAM.
     fn compare(&mut self, scene: &Scene, s: State, sums: [u32; 2]) {
         let mut wanted = self.bench.given.state();
-        // the oracle counts the stored places outside the given text, and is not run here
+        // the oracle keeps the stored places and the blanking outside the given text, and is not run here
         wanted.beam.count = s.beam.count;
+        wanted.beam.blanked = s.beam.blanked;
         let mut found = states::differences(&wanted, &states::plain(&s));
         found.extend(self.bench.compare_memory().err());
         if sums[0] != sums[1] {

@@ -110,7 +110,7 @@ impl Ppu {
     }
 
     /// The bytes of the state in the order of the state digest.
-    pub fn look_state(&self, count: u16, out: &mut Vec<u8>) {
+    pub fn look_state(&self, count: u16, blanked: bool, out: &mut Vec<u8>) {
         out.extend_from_slice(&[
             self.lcd_control.bits(),
             self.lcd_status.bits(),
@@ -136,6 +136,7 @@ impl Ppu {
         out.extend_from_slice(&count.to_le_bytes());
         out.extend_from_slice(&[
             self.lcd_turned_on as u8,
+            blanked as u8,
             self.is_drawing_window as u8,
             self.window_y_counter,
             self.fine_scroll_x_discard,

@@ -31,7 +31,7 @@ pub fn caught<T>(call: impl FnOnce() -> T) -> Result<T, String> {
         .map_err(|_| STOP.with(|stop| format!("it stopped: {}", stop.borrow())))
 }
 
-/// The given machine with the count of stored places, and beside it colour mode as the last start wanted it, which the
+/// The given machine with the count of stored places and the blanking, and beside it colour mode as the last start wanted it, which the
 /// given text does not keep: a start sets it, and no other call.
 pub struct Given {
     machine: Machine,
@@ -57,12 +57,13 @@ impl Given {
     pub fn set(&mut self, s: &State) {
         self.ppu.part_set(s);
         self.count = s.beam.count;
+        self.blanked = s.beam.blanked;
         self.cgb = s.machine.cgb;
     }
 
     /// The state in its plain form.
     pub fn state(&self) -> State {
-        self.ppu.part_state(self.count, self.cgb)
+        self.ppu.part_state(self.count, self.blanked, self.cgb)
     }
 }
 

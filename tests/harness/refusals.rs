@@ -5,6 +5,7 @@ use crate::bench::{caught, same, Bench, Memory, PICTURE};
 use crate::order::in_order;
 use crate::states;
 use given::ppu::Ppu;
+use rattle::beam::Mark;
 use rattle::hardware::Machine;
 use rattle::ppu;
 use rattle::refusals::{first, lowest, own};
@@ -107,7 +108,7 @@ const NO_REPORT: Report = Report {
     coincidence: false,
     ly: 0,
     swapped: false,
-    whole: false,
+    mark: Mark::No,
     count: 0,
 };
 
@@ -117,7 +118,7 @@ fn make(call: Call, s: State, m: &mut Memory) -> (u8, String) {
         Start(dmg, cgb) => {
             let machine = Machine { dmg, cgb };
             let t = ppu::start(machine, &mut m.vram, &mut m.oam, &mut m.a, &mut m.b);
-            let fresh = Ppu::look_fresh(cgb, dmg).part_state(0, cgb);
+            let fresh = Ppu::look_fresh(cgb, dmg).part_state(0, false, cgb);
             (
                 t.number,
                 told(states::plain(&t.state) == fresh, "the fresh state"),

@@ -110,6 +110,7 @@ pub fn blanking(bench: &mut Bench) -> Result<(), String> {
         wanted.beam.cycle = 4;
         wanted.beam.count = 0;
         wanted.beam.turned = true;
+        wanted.beam.blanked = true;
         same(
             wanted,
             || after,

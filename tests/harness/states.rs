@@ -165,6 +165,7 @@ fn beam(random: &mut Random) -> Beam {
         },
         level: flag(random),
         turned: flag(random),
+        blanked: flag(random),
     }
 }
 
@@ -363,7 +364,7 @@ fn each_palette(f: &mut dyn FnMut(String, &mut dyn Cell), prefix: &str, p: &mut 
 pub fn each(s: &mut State, f: &mut dyn FnMut(String, &mut dyn Cell)) {
     cells!(f, "", s; machine.dmg, machine.cgb);
     cells!(f, "", s.regs; lcdc, stat, scy, scx, ly, lyc, bgp, obp0, obp1, wy, wx, vbk, coord, cgb);
-    cells!(f, "", s.beam; line, cycle, x, shown, count, end, level, turned);
+    cells!(f, "", s.beam; line, cycle, x, shown, count, end, level, turned, blanked);
     cells!(f, "", s.pipe; window, wrow, discard, fetcher.delay, fetcher.column, fetcher.waiting);
     for (k, color) in s.pipe.fetcher.row.iter_mut().enumerate() {
         f(format!("fetcher.row[{}]", k), color);

@@ -18,7 +18,7 @@ pub fn step(s: &mut State, m: &mut Memory, cycles: u8) -> [u8; 16] {
         r.coincidence as u8,
         r.ly,
         r.swapped as u8,
-        r.whole as u8,
+        r.mark.number(),
     ]);
     answer[8..10].copy_from_slice(&r.count.to_le_bytes());
     answer

@@ -1,15 +1,17 @@
-//! The sweep: one write of every register at every even cycle of four lines, and on to the end of the frame. The answers
-//! are compared step by step, the state at every line's end and at the last, the pictures at the last.
+//! The sweep: one write of every register at every even cycle of four lines, and on to the end of the frame; or the display
+//! off and on there. The answers are compared step by step, the state at every line's end and at the last, the pictures at the
+//! last.
 
-use crate::bench::{Bench, Given};
+use crate::bench::{same, Bench, Given};
 use crate::{runs, states, step};
 use given::sweep::{self, CYCLES, FRAME, KINDS, LINES, WRITES};
 use rattle::sprite::SelectedSprite;
 use rattle::state::State;
 use std::cell::Cell;
 
-/// One in so many cases.
+/// One in so many cases, and one in so many blankings.
 const STRIDE: u64 = 101;
+const BLANKINGS: u64 = 3;
 
 /// A moment: the state and both pictures. VRAM and OAM stay.
 struct Moment {
@@ -22,9 +24,24 @@ struct Sweep<'a> {
     bench: &'a mut Bench,
     slots: Cell<[SelectedSprite; 10]>,
     steps: u64,
+    /// The mark of the last step.
+    mark: u8,
 }
 
-impl Sweep<'_> {
+/// What is done at a moment, by its number among those of all devices and lines.
+type At<'f> = &'f mut dyn FnMut(&mut Sweep, &Moment, u64) -> Result<(), String>;
+
+impl<'a> Sweep<'a> {
+    fn new(bench: &'a mut Bench) -> Self {
+        bench.given = Given::new();
+        Sweep {
+            bench,
+            slots: Cell::new(rattle::sprite::blank()),
+            steps: 0,
+            mark: 0,
+        }
+    }
+
     fn moment(&self, state: State) -> Moment {
         Moment {
             state,
@@ -83,6 +100,7 @@ impl Sweep<'_> {
         let wanted = self.bench.given.answer(q);
         let got = step::step(s, &mut self.bench.memory, q[1]);
         self.steps += 1;
+        self.mark = got[6];
         if wanted != got {
             return Err(format!("  answer: wanted {:?}, got {:?}", wanted, got));
         }
@@ -92,10 +110,10 @@ impl Sweep<'_> {
         Ok(got[5] != 0)
     }
 
-    /// A write at a moment, and steps until the pictures swap, a frame at most.
-    fn case(&mut self, moment: &Moment, write: usize, close: bool) -> Result<(), String> {
+    /// Calls at a moment, and steps until the pictures swap, a frame at most.
+    fn to_swap(&mut self, moment: &Moment, calls: &[[u8; 8]], close: bool) -> Result<(), String> {
         let mut s = self.back(moment);
-        for q in sweep::write_calls(write, s.beam.line, s.beam.x) {
+        for &q in calls {
             s = self.call(&s, q)?;
         }
         for _ in 0..=FRAME {
@@ -111,6 +129,17 @@ impl Sweep<'_> {
         self.bench.compare_memory()
     }
 
+    /// The same, and where a difference is found once more, closely, for the step and the smallest state that show it.
+    fn case(&mut self, moment: &Moment, calls: &[[u8; 8]]) -> Result<(), String> {
+        match self.to_swap(moment, calls, false) {
+            Ok(()) => {
+                self.bench.cases += 1;
+                Ok(())
+            }
+            Err(found) => Err(self.to_swap(moment, calls, true).err().unwrap_or(found)),
+        }
+    }
+
     /// The writes at a moment whose numbers are asked for; `number` is that of the first.
     fn cases(&mut self, moment: &Moment, number: u64, stride: u64) -> Result<(), String> {
         let first = self.bench.seed % stride;
@@ -118,18 +147,23 @@ impl Sweep<'_> {
             if at % stride != first {
                 continue;
             }
-            if let Err(found) = self.case(moment, write, false) {
-                // once more, closely, for the step and the smallest state that show it
-                let closely = self.case(moment, write, true);
-                let found = closely.err().unwrap_or(found);
-                return Err(format!(
-                    "  case {at}: {}\n{found}",
-                    named(&moment.state, write)
-                ));
-            }
-            self.bench.cases += 1;
+            let s = &moment.state;
+            let calls = sweep::write_calls(write, s.beam.line, s.beam.x);
+            self.case(moment, &calls)
+                .map_err(|found| format!("  case {at}: {}\n{found}", named(s, write)))?;
         }
         Ok(())
+    }
+
+    /// The display off and on at a moment: the first picture after it is whole but unseen if LCD x is 0, else torn.
+    fn blanking(&mut self, moment: &Moment) -> Result<(), String> {
+        let s = &moment.state;
+        let at = format!("off and on at line {}, cycle {}, LCD x {}", s.beam.line, s.beam.cycle, s.beam.x);
+        let calls = [s.regs.lcdc & 0x7F, s.regs.lcdc].map(|value| [3, 0x40, 0xFF, value, 0, 0, 0, 0]);
+        self.case(moment, &calls).map_err(|found| format!("  {at}\n{found}"))?;
+        let wanted = if s.beam.x == 0 { 2 } else { 0 };
+        let got = self.mark;
+        same(wanted, || got, || format!("{at}: the mark of the next swap"))
     }
 
     /// Steps of 4 to a line.
@@ -140,22 +174,22 @@ impl Sweep<'_> {
         Ok(s)
     }
 
-    fn kind(&mut self, kind: usize, stride: u64) -> Result<(), String> {
+    /// Every even cycle of the four lines on a device.
+    fn moments(&mut self, kind: usize, at: At) -> Result<(), String> {
         let mut s = self.bench.given.state();
         for q in sweep::prologue(self.bench.seed, kind) {
             s = self.call(&s, q)?;
         }
         for (i, &line) in LINES.iter().enumerate() {
             s = self.to_line(s, line)?;
-            let first = ((kind * LINES.len() + i) * CYCLES * WRITES.len()) as u64;
-            for cycle in (0..CYCLES as u64).step_by(2) {
-                let number = first + cycle * WRITES.len() as u64;
+            let first = ((kind * LINES.len() + i) * CYCLES) as u64;
+            for number in (first..first + CYCLES as u64).step_by(2) {
                 let base = self.moment(s);
-                self.cases(&base, number, stride)?;
+                at(self, &base, number)?;
                 s = self.back(&base);
                 let next = self.call(&s, [2, 2, 0, 0, 0, 0, 0, 0])?;
                 let between = self.moment(next);
-                self.cases(&between, number + WRITES.len() as u64, stride)?;
+                at(self, &between, number + 1)?;
                 s = self.back(&base);
                 s = self.call(&s, [2, 4, 0, 0, 0, 0, 0, 0])?;
             }
@@ -178,17 +212,32 @@ fn named(s: &State, write: usize) -> String {
 
 pub fn sweep(bench: &mut Bench) -> Result<(), String> {
     let stride = bench.size.unwrap_or(STRIDE).max(1);
-    bench.given = Given::new();
-    let mut sweep = Sweep {
-        bench,
-        slots: Cell::new(rattle::sprite::blank()),
-        steps: 0,
-    };
+    let writes = WRITES.len() as u64;
+    on_all(bench, sweep::CASES, &mut |sweep, moment, number| {
+        sweep.cases(moment, number * writes, stride)
+    })
+}
+
+pub fn blankings(bench: &mut Bench) -> Result<(), String> {
+    let stride = bench.size.unwrap_or(BLANKINGS).max(1);
+    let first = bench.seed % stride;
+    let all = sweep::CASES / WRITES.len();
+    on_all(bench, all, &mut |sweep, moment, number| {
+        if number % stride == first {
+            sweep.blanking(moment)?;
+        }
+        Ok(())
+    })
+}
+
+/// The moments of all devices; `all` is how many cases there are.
+fn on_all(bench: &mut Bench, all: usize, at: At) -> Result<(), String> {
+    let mut sweep = Sweep::new(bench);
     for kind in 0..KINDS.len() {
-        sweep.kind(kind, stride)?;
+        sweep.moments(kind, at)?;
     }
     let steps = given::list::spaced(sweep.steps);
-    sweep.bench.note = format!("of {}, {} steps", given::list::spaced(sweep::CASES as u64), steps);
+    sweep.bench.note = format!("of {}, {} steps", given::list::spaced(all as u64), steps);
     sweep.bench.moved = 0;
     Ok(())
 }

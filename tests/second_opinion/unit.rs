@@ -1,6 +1,7 @@
 //! This unit's side: the calls of a scene, and the picture that it shows.
 
 use crate::scene::{Kind, Scene, BANK, LCDC, REGISTERS};
+use rattle::beam::Mark;
 use rattle::hardware::Machine;
 use rattle::ppu;
 use rattle::state::State;
@@ -56,15 +57,15 @@ impl Unit {
         }
     }
 
-    /// Steps to the next swap, which is at most a frame away; whether the picture now shown is whole.
-    fn frame(&mut self) -> bool {
+    /// Steps to the next swap, which is at most a frame away; the mark of the picture now shown.
+    fn frame(&mut self) -> Mark {
         for _ in 0..154 * 456 / 4 {
             let (a, b) = (&mut self.a, &mut self.b);
             let t = ppu::step(self.state, &self.vram, &self.oam, a, b, 4);
             done(t.number);
             self.state = t.state;
             if t.report.swapped {
-                return t.report.whole;
+                return t.report.mark;
             }
         }
         panic!("no swap in the steps of a frame")
@@ -91,7 +92,7 @@ pub fn picture(scene: &Scene) -> Vec<u8> {
     for (low, &value) in REGISTERS.iter().zip(&scene.values) {
         unit.write(*low, value);
     }
-    unit.frame();
-    assert!(unit.frame(), "the second picture is not whole");
+    assert!(unit.frame() == Mark::Unseen, "the first picture is not whole but unseen");
+    assert!(unit.frame() == Mark::Whole, "the second picture is not whole");
     ppu::screen_buffer(unit.state, &unit.a, &unit.b).to_vec()
 }

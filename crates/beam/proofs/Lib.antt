@@ -3,3 +3,5 @@
 pub mod Ways
 -- it keeps a state in order
 pub mod Fine
+-- what a mark says
+pub mod Marks

@@ -4,7 +4,7 @@ use mathlib.Core.Bool.{Bool, false, cond, _&&_}
 use lib.Dec.{eqb}
 use Rattle.hardware.specs.Screen.{lineCycles, frameLines, places}
 use Rattle.lcd.specs.Pictures.{other}
-use Rattle.state.specs.With.{withRegisters, withBeam, withLy, withPlace, withX, withShown, withCount, withTurned}
+use Rattle.state.specs.With.{withRegisters, withBeam, withLy, withPlace, withX, withShown, withCount, withTurned, withBlanked}
 use Rattle.state.specs.declared.Registers.{Registers}
 use Rattle.state.specs.declared.Beam.{Beam}
 use Rattle.state.specs.declared.State.{State}
@@ -24,9 +24,10 @@ onward n b = withTurned (withPlace b (b .line) (b .cycle + n)) false
 abbrev pub nextLine : Beam → Beam
 nextLine b = withTurned (withPlace b (b .line + 1) 0) false
 
--- after 153 the pictures swap: line 0, LCD x 0, no place stored
+-- after 153 the pictures swap: line 0, LCD x 0, no place stored, no blanking since
 abbrev pub nextFrame : Beam → Beam
-nextFrame b = withShown (withCount (withX (withTurned (withPlace b 0 0) false) 0) 0) (other (b .shown))
+nextFrame b =
+    withBlanked (withShown (withCount (withX (withTurned (withPlace b 0 0) false) 0) 0) (other (b .shown))) false
 
 -- a new line sets LY
 abbrev pub atLine : State → Beam → State

@@ -1,2 +1,3 @@
 -- What the contracts of `beam` cite.
 pub mod Advance
+pub mod Marks

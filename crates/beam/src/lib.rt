@@ -3,9 +3,30 @@ ghost use mathlib.Core.Path.{_≡_};
 ghost use Prim.Native.Nat.{_<_, _≤_, _+_};
 ghost use Rattle.hardware.specs.Screen.{lineCycles, frameLines};
 ghost use Rattle.beam.specs.Advance.{swaps, onward, nextLine, nextFrame, advancedBeam, advancedRegisters, whole};
+ghost use Rattle.beam.specs.Marks.{markNumber, markOf};
 use hardware::Machine;
 use state::Beam;
 use state::Registers;
+
+// The mark of a picture: not whole; whole; whole, but the first after a blanking, which the screen does not show.
+pub enum Mark {
+    No,
+    Whole,
+    Unseen,
+}
+
+impl Mark {
+    // The number of a mark.
+    pub fn number(self) -> u8
+        ensures { λ r. ⌜ r ≡ markNumber self ⌝ }
+    {
+        match self {
+            Mark::No => 0,
+            Mark::Whole => 1,
+            Mark::Unseen => 2,
+        }
+    }
+}
 
 // The beam further in its line.
 fn onward_by(b: Beam, cycles: u8) -> Beam
@@ -32,7 +53,7 @@ fn next_line(b: Beam) -> Beam
     n
 }
 
-// After line 153: the pictures swap, and no place is stored yet.
+// After line 153: the pictures swap, no place is stored yet, and no blanking has come since.
 fn next_frame(b: Beam) -> Beam
     requires { ⌜ b .shown ≤ 1 ⌝ }
     ensures { λ n. ⌜ n ≡ nextFrame b ⌝ }
@@ -45,6 +66,7 @@ fn next_frame(b: Beam) -> Beam
     n.shown = shown;
     n.count = 0;
     n.turned = false;
+    n.blanked = false;
     n
 }
 
@@ -68,6 +90,20 @@ pub fn is_whole(b: Beam, cycles: u8) -> bool
         return false;
     }
     b.count as usize == Machine::PLACES
+}
+
+// The mark of the picture that a step ends; no where it ends none.
+pub fn mark_of(b: Beam, cycles: u8) -> Mark
+    requires { ⌜ (b .cycle + cycles ≤ lineCycles) × (b .line < frameLines) ⌝ }
+    ensures { λ r. ⌜ r ≡ markOf cycles b ⌝ }
+{
+    if !is_whole(b, cycles) {
+        return Mark::No;
+    }
+    if b.blanked {
+        return Mark::Unseen;
+    }
+    Mark::Whole
 }
 
 // The cycle advances; at 456 the next line, after line 153 the next frame.

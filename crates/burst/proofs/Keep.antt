@@ -1,4 +1,4 @@
--- What a run of draws keeps: a state in order stays so, and line, cycle, the picture shown and LCDC stay.
+-- What a run of draws keeps: a state in order stays so, and line, cycle, the picture shown, LCDC and what is known of a blanking stay.
 use mathlib.Core.Path.{_≡_, refl, _∙_}
 use mathlib.Core.List.{List}
 use Prim.Native.Nat.{ℕ, zero, suc}
@@ -12,26 +12,34 @@ use Rattle.draw.proofs.Fine.{drawn-fine}
 use Rattle.burst.specs.Burst.{Burst, burst}
 use Rattle.burst.proofs.Ways.{burst-cases, burst-none}
 
--- the same line, cycle, picture shown and LCDC
+-- the same line, cycle, picture shown and LCDC, blanked or not
 pub record Same (s u : State) : Type 0 where
   pub line : u .beam .line ≡ s .beam .line
   pub cycle : u .beam .cycle ≡ s .beam .cycle
   pub shown : u .beam .shown ≡ s .beam .shown
   pub lcdc : u .regs .lcdc ≡ s .regs .lcdc
+  pub blanked : u .beam .blanked ≡ s .beam .blanked
 
 pub same-refl : {s : State} → Same s s
-same-refl = record { line = refl; cycle = refl; shown = refl; lcdc = refl }
+same-refl = record { line = refl; cycle = refl; shown = refl; lcdc = refl; blanked = refl }
 
 pub same-then : {s t u : State} → Same s t → Same t u → Same s u
-same-then p q = record { line = q .line ∙ p .line; cycle = q .cycle ∙ p .cycle; shown = q .shown ∙ p .shown; lcdc = q .lcdc ∙ p .lcdc }
+same-then p q =
+    record {
+      line = q .line ∙ p .line;
+      cycle = q .cycle ∙ p .cycle;
+      shown = q .shown ∙ p .shown;
+      lcdc = q .lcdc ∙ p .lcdc;
+      blanked = q .blanked ∙ p .blanked;
+    }
 
 drawn-same : (vram : List ℕ) (s : State) → Same s (drawn vram s .state)
 drawn-same vram s =
     drawn-cases (opened (s .regs) (s .beam .line)) vram s (λ (d : Drawn). Same s (d .state))
-    (λ h. record { line = refl; cycle = refl; shown = refl; lcdc = refl })
-    (λ h d. record { line = refl; cycle = refl; shown = refl; lcdc = refl })
-    (λ h d o. record { line = refl; cycle = refl; shown = refl; lcdc = refl })
-    (λ h d e. record { line = refl; cycle = refl; shown = refl; lcdc = refl })
+    (λ h. record { line = refl; cycle = refl; shown = refl; lcdc = refl; blanked = refl })
+    (λ h d. record { line = refl; cycle = refl; shown = refl; lcdc = refl; blanked = refl })
+    (λ h d o. record { line = refl; cycle = refl; shown = refl; lcdc = refl; blanked = refl })
+    (λ h d e. record { line = refl; cycle = refl; shown = refl; lcdc = refl; blanked = refl })
 
 pub burst-same : (n : ℕ) (vram : List ℕ) (s : State) → Same s (burst n vram s .state)
 burst-same zero vram s = rw (burst-none vram s) same-refl

@@ -52,7 +52,7 @@ fn flags(h: u64, s: State) -> u64 {
     flag(cgb, s.machine.dmg)
 }
 
-// The beam, and last whether the display was just turned on.
+// The beam, and last whether the display was just turned on and whether it was blanked since the last swap.
 fn beam(h: u64, b: Beam) -> u64 {
     let line = wire::take_in(h, b.line);
     let cycle = word(line, b.cycle);
@@ -60,7 +60,8 @@ fn beam(h: u64, b: Beam) -> u64 {
     let shown = wire::take_in(x, b.shown);
     let end = word(shown, b.end);
     let count = word(end, b.count);
-    flag(count, b.turned)
+    let turned = flag(count, b.turned);
+    flag(turned, b.blanked)
 }
 
 // The byte of an attribute.

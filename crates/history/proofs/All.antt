@@ -4,8 +4,9 @@ use Rattle.history.proofs.Answered.{answered, picture-given}
 use Rattle.history.proofs.Demand.{never-2, counted, ends-in-time, empty-at-origin, marked}
 use Rattle.history.proofs.Frame.{each-once}
 use Rattle.history.proofs.Torn.{torn}
+use Rattle.history.proofs.Unseen.{marked-unseen, first-picture}
 use Rattle.history.proofs.Alike.{independent}
-use Rattle.history.proofs.Exists.{every-number, reached, begun-frame}
+use Rattle.history.proofs.Exists.{every-number, reached, begun-frame, unshown}
 
 pub demand-3 : Demand3
 demand-3 =
@@ -23,4 +24,7 @@ demand-3 =
       everyNumber = every-number;
       reached = reached;
       begun = begun-frame;
+      markedUnseen = marked-unseen;
+      firstPicture = first-picture;
+      unshown = unshown;
     }

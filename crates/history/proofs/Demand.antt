@@ -15,7 +15,10 @@ use Rattle.state.specs.With.{modeOf}
 use Rattle.state.specs.declared.State.{State}
 use Rattle.order.specs.Fine.{Fine}
 use Rattle.beam.specs.Advance.{swaps, whole, advanced}
+use Rattle.beam.specs.Marks.{isYes, markBy, markOf}
+use Rattle.beam.proofs.Marks.{mark-yes}
 use Rattle.step.specs.Step.{lit, working, settled, report, reportOf, offReport, shotsOf}
+use Rattle.step.proofs.Keeps.{settled-same}
 use Rattle.step.specs.declared.Report.{Report}
 use Rattle.ppu.specs.declared.StepAnswer.{StepAnswer}
 use Rattle.terms.proofs.Pace.{Pace}
@@ -23,7 +26,7 @@ use Rattle.bound.proofs.Potential.{left-positive}
 use Rattle.history.specs.Run.{World, Call, step, number, Turn, stepping, swapped}
 use Rattle.history.specs.Public.{answer}
 use Rattle.history.specs.Stored.{Stored, storedBy, Trace, through, trace, numbers}
-use Rattle.history.specs.Demand.{EveryStep, AtOrigin, staysOn, Never2, Counts, Counted, InTime, EndsInTime, EmptyAtOrigin, Mark, Marked}
+use Rattle.history.specs.Demand.{EveryStep, AtOrigin, staysOn, Never2, Counts, Counted, InTime, EndsInTime, EmptyAtOrigin, AllStored, MarkedYes, Marked}
 use Rattle.history.proofs.Rising.{Rising, rising-zero, rising-most, rising-mark}
 use Rattle.history.proofs.Places.{stored-none}
 use Rattle.history.proofs.Deeds.{not-2, step-paced, swap-accepted}
@@ -77,7 +80,7 @@ pub counted : Counted
 counted = of-runs Counts (λ base t. counts)
 
 -- 4
-in-time : {base : Base} {s : State} {l : List ℕ} → base .swap ≡ true → Fine s → PhaseOf base s l → modeOf (s .regs .stat) ≡ 3
+in-time : {base : Base} {s : State} {l : List ℕ} → base .full ≡ true → Fine s → PhaseOf base s l → modeOf (s .regs .stat) ≡ 3
     → (80 < s .beam .cycle) × (s .beam .cycle < 284)
 in-time on f (Phase.before m low line e up) z = absurd (m z)
 in-time {s = s} on f (Phase.tight m low line t h up) z = let p = left-positive s (f .beam .x) in (low, omega arith)
@@ -112,10 +115,15 @@ module _ {base : Base} {t : Trace} (i : Inv base t) (n : ℕ) (e : swapped (step
   pub swaps-now : swaps n (t .world .state .beam) ≡ true
   swaps-now = swap .1
 
-  mark-count : answer n (t .world) .whole ≡ eqb (answer n (t .world) .count) places
-  unfolding report whole
-  mark-count =
-      rw (swap .0) (rw (settled-swaps n (t .world .tables) (t .world .state) ∙ swaps-now) refl)
+  -- by the count and by what is known of a blanking
+  pub mark-by : answer n (t .world) .mark ≡ markBy (eqb (answer n (t .world) .count) places) (t .world .state .beam .blanked)
+  unfolding report markOf whole
+  mark-by =
+      let same = settled-same n (t .world .tables) (t .world .state) in
+      rw (swap .0) (rw (settled-swaps n (t .world .tables) (t .world .state) ∙ swaps-now, same .blanked) refl)
+
+  mark-count : isYes (answer n (t .world) .mark) ≡ eqb (answer n (t .world) .count) places
+  mark-count = ap isYes mark-by ∙ mark-yes (eqb (answer n (t .world) .count) places) (t .world .state .beam .blanked)
 
   pub through-now : through (stepping n) t
       ≡ t .since ++ storedBy (working n (t .world .tables) (t .world .state) .shots)
@@ -131,7 +139,7 @@ module _ {base : Base} {t : Trace} (i : Inv base t) (n : ℕ) (e : swapped (step
   count-places : answer n (t .world) .count ≡ length (numbers (through (stepping n) t))
   count-places = answer-count i n accepted-now ∙ sym (length-map (through (stepping n) t) (λ (z : Stored). z .place))
 
-  mark : (answer n (t .world) .whole ≡ true) ↔ ((k : ℕ) → k < places → List·Memᴰ k (numbers (through (stepping n) t)))
+  mark : (isYes (answer n (t .world) .mark) ≡ true) ↔ AllStored n t
   mark =
       let all = rising-mark (rising-zero now-rising) in (
         λ m. all .0 (sym count-places ∙ eqb-true (answer n (t .world) .count) places (sym mark-count ∙ m)),
@@ -139,7 +147,7 @@ module _ {base : Base} {t : Trace} (i : Inv base t) (n : ℕ) (e : swapped (step
       )
 
 -- in the caller's hand
-pub hand-mark : {base : Base} {t : Trace} → Inv base t → EveryStep (λ (n : ℕ) (u : Trace) (r : StepAnswer). r .report .swapped ≡ true → Mark n u r) t
+pub hand-mark : {base : Base} {t : Trace} → Inv base t → EveryStep (λ (n : ℕ) (u : Trace) (r : StepAnswer). r .report .swapped ≡ true → MarkedYes n u r) t
 hand-mark {t = t} i n r left d z =
     let e = sym (told-swap d) ∙ z in
     rw (told-report d (d .performs .number ∙ accepted-now i n e)) (mark i n e)

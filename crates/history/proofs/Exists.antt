@@ -1,7 +1,7 @@
--- Frames exist: steps of 4 move the beam by 4 until the swap.
+-- Frames exist: steps of 4 move the beam by 4 until the swap. So do unseen pictures.
 use mathlib.Core.Path.{_≡_, refl, sym, ap, ap₂, _∙_}
 use mathlib.Core.Bool.{Bool, true, false, true≢false, not, _&&_}
-use mathlib.Core.List.{[]}
+use mathlib.Core.List.{[], _∷_}
 use Prim.Native.Nat.{ℕ, zero, suc, _+_, _*_, _%_, _≤_, _<_}
 use native.Mathlib.Omega.{arith}
 use borrow.Author.Tests.{eqb-true, eq-eqb}
@@ -22,19 +22,23 @@ use Rattle.state.specs.declared.State.{State}
 use Rattle.order.specs.Order.{inOrder}
 use Rattle.order.specs.Fine.{Fine}
 use Rattle.memory.specs.Fresh.{freshState}
+use Rattle.registers.specs.Registers.{writable, keptIn, listedIn}
+use Rattle.registers.specs.Write.{registersWritten, stateWritten}
 use Rattle.order.proofs.Clauses.{ordered}
 use Rattle.beam.specs.Advance.{ends, swaps, advanced}
 use Rattle.beam.proofs.Ways.{advanced-cases}
 use Rattle.step.specs.Step.{lit, settled, stepped}
 use Rattle.step.proofs.Keeps.{settled-fine, settled-same}
-use Rattle.history.specs.Run.{World, step, oam, shown, bug, number, ours, astray, stepping, freshWorld, swapped, blanked}
+use Rattle.history.specs.Run.{World, step, write, oam, shown, bug, number, Turn, ours, astray, stepping, freshWorld, swapped, blanked}
 use Rattle.history.specs.Stored.{Trace, go, trace, begun}
-use Rattle.history.specs.Demand.{AtOrigin, staysOn, staysHidden, Occurs, EveryNumber, Reaches, Reached, Begins, Begun}
+use Rattle.history.specs.Demand.{AtOrigin, staysOn, staysHidden, Occurs, EveryNumber, Reaches, Reached, Begins, Begun, Unshown}
 use Rattle.history.proofs.Kept.{lent-fits}
-use Rattle.history.proofs.Phase.{Base, blankBase}
+use Rattle.history.proofs.Phase.{Base, startBase}
 use Rattle.history.proofs.Steps.{settled-swaps}
 use Rattle.history.proofs.Invariant.{Inv, of-runs, baseAfter, begun-inv, go-inv}
+use Rattle.history.proofs.Answered.{told-swap}
 use Rattle.history.proofs.Demand.{swaps-now}
+use Rattle.history.proofs.Unseen.{first-picture}
 
 -- where the beam stands, in cycles from line 0, cycle 0
 abbrev position : State → ℕ
@@ -158,11 +162,70 @@ begins {t} k =
 
 fresh-at : (machine : Machine) → At 70168 (begun (freshWorld machine))
 unfolding freshState
-fresh-at machine = record { base = blankBase 0; inv = begun-inv machine; on = refl; at = refl }
+fresh-at machine = record { base = startBase; inv = begun-inv machine; on = refl; at = refl }
 
 -- 14 steps of 4 from a start
 pub begun-frame : Begun
 begun-frame machine = begins (many 13 (fresh-at machine) refl (omega arith) .then)
+
+-- the display switched off and on after a start: line 0, cycle 4
+abbrev switch-off : Turn
+switch-off = ours (write 0xFF40 0x11)
+
+abbrev switch-on : Turn
+switch-on = ours (write 0xFF40 0x91)
+
+-- a write to LCDC is accepted
+writes-lcdc : {base : Base} {t : Trace} → Inv base t → (value : ℕ) → number (write 0xFF40 value) (t .world) ≡ 0
+unfolding lowest listedIn writable
+writes-lcdc i value = rw (pictures-fit (i .sizes .pictures), ordered (i .fine)) refl
+
+module _ (machine : Machine) where
+  abbrev fresh : Trace
+  fresh = begun (freshWorld machine)
+
+  off-accepted : number (write 0xFF40 0x11) (fresh .world) ≡ 0
+  off-accepted = writes-lcdc (begun-inv machine) 0x11
+
+  off-blanks : blanked switch-off (fresh .world) ≡ true
+  unfolding freshState keptIn writable
+  off-blanks = rw off-accepted refl
+
+  off-inv : Inv (baseAfter switch-off (fresh .world) startBase) (go switch-off fresh)
+  off-inv = go-inv switch-off (begun-inv machine)
+
+  on-accepted : number (write 0xFF40 0x91) (go switch-off fresh .world) ≡ 0
+  on-accepted = writes-lcdc off-inv 0x91
+
+  on-blanks-not : blanked switch-on (go switch-off fresh .world) ≡ false
+  unfolding freshState stateWritten registersWritten keptIn writable
+  on-blanks-not = rw (on-accepted, off-accepted) refl
+
+  on-swaps-not : swapped switch-on (go switch-off fresh .world) ≡ false
+  on-swaps-not = rw on-accepted refl
+
+  switched-at : At 4 (go switch-on (go switch-off fresh))
+  unfolding freshState stateWritten registersWritten keptIn writable
+  switched-at =
+      record {
+        base = baseAfter switch-on (go switch-off fresh .world) (baseAfter switch-off (fresh .world) startBase);
+        inv = go-inv switch-on off-inv;
+        on = rw (on-accepted, off-accepted) refl;
+        at = rw (on-accepted, off-accepted) refl;
+      }
+
+-- 16: 17,555 steps of 4 from there
+pub unshown : Unshown
+unfolding trace staysOn staysHidden freshState
+unshown machine r left d =
+    let m = many 17554 (switched-at machine) refl (omega arith) in
+    let z = told-swap d ∙ swaps-at (m .then) refl refl in (
+      z,
+      first-picture machine [] switch-off (off-blanks machine) (switch-on ∷ replicate 17554 (stepping 4))
+          (ap₂ (λ (x y : Bool). not x && y) (on-blanks-not machine) (m .stays))
+          (ap₂ (λ (x y : Bool). not x && y) (on-swaps-not machine) (m .hides))
+          4 r left d z,
+    )
 
 -- a world that is refused by 1, whatever is asked: nothing is lent
 abbrev nothingLent : State → World

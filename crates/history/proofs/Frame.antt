@@ -34,7 +34,7 @@ use Rattle.history.proofs.Invariant.{Inv, Full, of-runs, origin-full, o
 use Rattle.history.proofs.Demand.{accepted-now, swaps-now, through-now, pace-now}
 
 -- at a swap the beam is below the picture, and a full run has stored every place
-whole-mid : {base : Base} {n mode line cycle x : ℕ} {p : Pipe} {l : List ℕ} → base .swap ≡ true → Mid base n mode line cycle x p l
+whole-mid : {base : Base} {n mode line cycle x : ℕ} {p : Pipe} {l : List ℕ} → base .full ≡ true → Mid base n mode line cycle x p l
     → line + 1 ≡ frameLines → l ≡ from 0 places
 whole-mid on (Mid.before m low line e up) at = absurd (omega arith)
 whole-mid on (Mid.tight m low line t h up) at = absurd (omega arith)

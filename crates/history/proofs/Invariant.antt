@@ -4,6 +4,8 @@ use mathlib.Core.Bool.{Bool, true, false, true≢false, not, cond, _&&_, _||_, o
 use mathlib.Core.List.{List, [], _∷_, _++_, append-nil, map-append}
 use Prim.Native.Nat.{ℕ, _+_, _≤_, _<_}
 use native.Mathlib.Omega.{arith}
+use borrow.Author.Tests.{eqb-true}
+use lib.Dec.{eqb}
 use lib.ListN.{length, length-append, length-map}
 use Rattle.logic.proofs.Tests.{isnt}
 use Rattle.logic.proofs.Both.{first, second}
@@ -28,7 +30,7 @@ use Rattle.history.proofs.Deeds.{Lawful, lawful}
 use Rattle.history.proofs.Kept.{WorldSized, fresh-sized, sized-kept}
 use Rattle.memory.proofs.Fine.{fresh-fine}
 use Rattle.registers.proofs.Fine.{mode-written, write-fine, colour-fine}
-use Rattle.history.proofs.Phase.{Base, swapBase, blankBase, first′, Phase, PhaseOf, MidOf, mid-rising, phase-rising}
+use Rattle.history.proofs.Phase.{Base, startBase, swapBase, blankBase, Entry, at0, first′, Phase, PhaseOf, MidOf, mid-rising, phase-rising}
 use Rattle.terms.proofs.Pace.{Pace}
 use Rattle.history.proofs.Steps.{stepped-fine, mid-ends, advanced-count, advanced-origin, settled-count, settled-swaps, step-mid, step-phase}
 
@@ -36,7 +38,7 @@ use Rattle.history.proofs.Steps.{stepped-fine, mid-ends, advanced-count
 pub record Stands (base : Base) (s : State) (since : List Stored) : Type 0 where
   pub count : s .beam .count ≡ length since
   pub phase : PhaseOf base s (numbers since)
-  pub origin : s .beam .line ≡ 0 → s .beam .cycle ≡ 0 → (base .swap ≡ true) × (since ≡ [])
+  pub origin : s .beam .line ≡ 0 → s .beam .cycle ≡ 0 → (base .full ≡ true) × (since ≡ [])
 
 -- of a run
 pub record Inv (base : Base) (t : Trace) : Type 0 where
@@ -58,20 +60,25 @@ write-stands {base} {s} {l} address value i = by (blanks (s .regs) address (kept
     u : State
     u = valueWritten s address (kept address value)
 
+    -- line 0 is entered with LCD x as it stands
+    entry : (b : Bool) → eqb (s .beam .x) 0 ≡ b → Entry (blankBase (s .beam .x)) 0 (s .beam .x) (s .pipe)
+    entry true e = at0 (eqb-true (s .beam .x) 0 e)
+    entry false e = first′ e refl
+
     by : (b : Bool) → Stands (cond b (blankBase (s .beam .x)) base) (cond b (blankedState u) u) (cond b [] l)
     by true =
         let z : s .beam .x ≤ place (s .beam .x) 0 = omega arith in
         record {
           count = refl;
           phase =
-              Phase.before (λ k. absurd (omega arith)) (omega arith) (omega arith) (first′ refl refl)
-              (record { rises = none z; fills = λ e. absurd (true≢false (sym e)) });
+              Phase.before (λ k. absurd (omega arith)) (omega arith) (omega arith) (entry (eqb (s .beam .x) 0) refl)
+              (record { rises = none z; fills = λ e. omega (arith, eqb-true (s .beam .x) 0 e) });
           origin = λ line cycle. absurd (omega arith);
         }
     by false = record { count = i .count; phase = rw (mode-written (s .regs) address value) (i .phase); origin = i .origin }
 
 -- the fresh state
-fresh-stands : (machine : Machine) → Stands (blankBase 0) (freshState machine) []
+fresh-stands : (machine : Machine) → Stands startBase (freshState machine) []
 unfolding freshState
 fresh-stands machine =
     let z : 0 ≤ places = omega arith in
@@ -107,7 +114,7 @@ module _ {base : Base} (n : ℕ) (lent : Tables) {s : State} {l : List Stored} (
           phase = phased (swaps n (s .beam)) (rw (map-append (λ (t : Stored). t .place) l (storedBy (working n lent s .shots))) (step-phase n lent s f low pace (i .phase)));
           origin = λ line cycle.
               let e = sym (settled-swaps n lent s) ∙ advanced-origin n (settled n lent s) (pace .some) line cycle in
-              (ap (λ (b : Bool). cond b swapBase base .swap) e, ap (λ (b : Bool). cond b [] (l ++ storedBy (working n lent s .shots))) e);
+              (ap (λ (b : Bool). cond b swapBase base .full) e, ap (λ (b : Bool). cond b [] (l ++ storedBy (working n lent s .shots))) e);
         }
       where
         counted : (b : Bool) → swaps n (s .beam) ≡ b
@@ -166,7 +173,7 @@ go-inv c {t = t} i =
       stands = does-stands w (i .fine) (i .stands) (deedOf c w) known;
     }
 
-pub begun-inv : (machine : Machine) → Inv (blankBase 0) (begun (freshWorld machine))
+pub begun-inv : (machine : Machine) → Inv startBase (begun (freshWorld machine))
 begun-inv machine = record { fine = fresh-fine machine; sizes = fresh-sized machine; stands = fresh-stands machine }
 
 -- what a run is counted from after turns
@@ -180,17 +187,17 @@ trace-inv [] i = i
 trace-inv (c ∷ rest) {base} {t} i = trace-inv rest (go-inv c i)
 
 -- what holds of a run from a start, and what follows from it
-pub ran-inv : (machine : Machine) (turns : List Turn) → Inv (baseAt turns (begun (freshWorld machine)) (blankBase 0)) (ran machine turns)
+pub ran-inv : (machine : Machine) (turns : List Turn) → Inv (baseAt turns (begun (freshWorld machine)) startBase) (ran machine turns)
 ran-inv machine turns = trace-inv turns (begun-inv machine)
 
 pub of-runs : (P : Trace → Type 0) → ((base : Base) (t : Trace) → Inv base t → P t) → EveryRun P
 of-runs P f machine before = f _ _ (ran-inv machine before)
 
--- of a run that a swap is the latest of: it goes on full while the display stays on
+-- of a run that is counted from a full base: it goes on full while the display stays on
 pub record Full (t : Trace) : Type 0 where
   pub base : Base
   pub inv : Inv base t
-  pub full : base .swap ≡ true
+  pub full : base .full ≡ true
 
 module _ {t : Trace} where
   pub origin-full : {base : Base} → Inv base t → AtOrigin (t .world) → Full t
@@ -204,7 +211,7 @@ module _ {t : Trace} where
         full = rw off (by (swapped c (t .world)));
       }
     where
-      by : (b : Bool) → cond b swapBase (k .base) .swap ≡ true
+      by : (b : Bool) → cond b swapBase (k .base) .full ≡ true
       by true = refl
       by false = k .full
 

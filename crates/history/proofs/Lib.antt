@@ -31,9 +31,11 @@ pub mod Demand
 pub mod Frame
 -- statement 8: a picture torn by a switch-off
 pub mod Torn
+-- statements 14 and 15: whole, but unseen; the first picture after a blanking
+pub mod Unseen
 -- statement 10: what the pictures held does not matter
 pub mod Alike
--- statements 11 to 13: every number and frames exist
+-- statements 11 to 13 and 16: every number, frames and unseen pictures exist
 pub mod Exists
 -- all of them
 pub mod All

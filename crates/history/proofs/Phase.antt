@@ -6,6 +6,7 @@ use mathlib.Core.List.{List, _++_, append-nil}
 use Prim.Native.Nat.{ℕ, _+_, _*_, _≤_, _<_}
 use native.Mathlib.Omega.{arith}
 use native.Mathlib.Decide.{decLt}
+use lib.Dec.{eqb}
 use lib.ListN.{length, length-append, length-map}
 use Rattle.hardware.specs.Screen.{width, height, places, place}
 use Rattle.state.specs.With.{modeOf}
@@ -27,28 +28,31 @@ use Rattle.terms.proofs.Pace.{Pace}
 use Rattle.history.proofs.Places.{spotNumber, Came, on, over, Ran, burst-ran, ran-rising, burst-idle}
 use Rattle.history.proofs.Views.{View, view-scan, view-early, view-render, view-late, view-below}
 
--- what a run is counted from: whether a swap is the latest of start, swap and blanking, and a bound below which nothing is
--- stored since: LCD x at a blanking, else 0
+-- what a run is counted from, the latest of start, swap and blanking: whether it is followed by every place (a swap is, and a
+-- blanking at LCD x 0), and a bound below which nothing is stored since: LCD x at a blanking, else 0
 pub record Base : Type 0 where
-  pub swap : Bool
+  pub full : Bool
   pub low : ℕ
 
--- a swap forgets everything; so does a blanking, and LCD x stays
+-- a start comes below the picture; a swap forgets everything; so does a blanking, and LCD x stays
+abbrev pub startBase : Base
+startBase = record { full = false; low = 0 }
+
 abbrev pub swapBase : Base
-swapBase = record { swap = true; low = 0 }
+swapBase = record { full = true; low = 0 }
 
 abbrev pub blankBase : ℕ → Base
-blankBase x = record { swap = false; low = x }
+blankBase x = record { full = eqb x 0; low = x }
 
--- places that rise from the bound below hi; since a swap they are all the places below hi
+-- places that rise from the bound below hi; from a full base they are all the places below hi
 pub record Up (base : Base) (hi : ℕ) (l : List ℕ) : Type 0 where
   pub rises : Rising (base .low) hi l
-  pub fills : base .swap ≡ true → length l ≡ hi
+  pub fills : base .full ≡ true → length l ≡ hi
 
 pub up-same : {base : Base} {hi hi′ : ℕ} {l : List ℕ} → hi ≡ hi′ → Up base hi l → Up base hi′ l
 up-same e u = record { rises = rising-upper (omega arith) (u .rises); fills = λ z. omega (arith, u .fills z) }
 
-pub up-less : {base : Base} {hi hi′ : ℕ} {l : List ℕ} → base .swap ≡ false → hi ≤ hi′ → Up base hi l → Up base hi′ l
+pub up-less : {base : Base} {hi hi′ : ℕ} {l : List ℕ} → base .full ≡ false → hi ≤ hi′ → Up base hi l → Up base hi′ l
 up-less o e u = record { rises = rising-upper e (u .rises); fills = λ z. absurd (true≢false (sym z ∙ o)) }
 
 up-more : {base : Base} {n : ℕ} {s t : State} {l : List ℕ} {r : List Stored} → Ran n s t r → Up base (spotNumber s) l
@@ -63,16 +67,16 @@ up-more {l = l} {r} q u =
 pub data Entry (base : Base) (line x : ℕ) (p : Pipe) : Type 0 where
   at0 : x ≡ 0 → Entry base line x p
   inside : p .window ≡ true → Entry base line x p
-  first′ : base .swap ≡ false → line ≡ 0 → Entry base line x p
+  first′ : base .full ≡ false → line ≡ 0 → Entry base line x p
 
 -- where a run stands by mode, line, cycle, column and pipe, with the numbers of the places stored: 204 draws behind cycle 80 end at 284
 pub data Phase (base : Base) (mode line cycle x : ℕ) (p : Pipe) (l : List ℕ) : Type 0 where
   before : (mode ≡ 3 → ⊥) → cycle ≤ 80 → line < height → Entry base line x p → Up base (place x line) l → Phase base mode line cycle x p l
   tight : mode ≡ 3 → 80 < cycle → line < height → Steady x p → leftAt x p + cycle ≤ 284 → Up base (place x line) l
       → Phase base mode line cycle x p l
-  loose : base .swap ≡ false → mode ≡ 3 → 80 < cycle → line ≡ 0 → Paced p → (p .window ≡ true) ⊎ (leftAt x p + cycle ≤ 284)
+  loose : base .full ≡ false → mode ≡ 3 → 80 < cycle → line ≡ 0 → Paced p → (p .window ≡ true) ⊎ (leftAt x p + cycle ≤ 284)
       → Up base (place x line) l → Phase base mode line cycle x p l
-  carried : base .swap ≡ false → line ≡ 1 → cycle ≡ 0 → p .window ≡ true → Up base (place x line) l → Phase base mode line cycle x p l
+  carried : base .full ≡ false → line ≡ 1 → cycle ≡ 0 → p .window ≡ true → Up base (place x line) l → Phase base mode line cycle x p l
   ended : (mode ≡ 3 → ⊥) → 80 < cycle → line < height → x ≡ 0 → Up base (width * (line + 1)) l → Phase base mode line cycle x p l
   rest : (mode ≡ 3 → ⊥) → height ≤ line → x ≡ 0 → Up base places l → Phase base mode line cycle x p l
 
@@ -81,7 +85,7 @@ pub data Mid (base : Base) (n mode line cycle x : ℕ) (p : Pipe) (l : List ℕ)
   before : (mode ≡ 3 → ⊥) → cycle + n ≤ 80 → line < height → Entry base line x p → Up base (place x line) l → Mid base n mode line cycle x p l
   tight : mode ≡ 3 → 80 ≤ cycle → line < height → Steady x p → leftAt x p + (cycle + n) ≤ 284 → Up base (place x line) l
       → Mid base n mode line cycle x p l
-  loose : base .swap ≡ false → mode ≡ 3 → 80 ≤ cycle → line ≡ 0 → Paced p → (p .window ≡ true) ⊎ (leftAt x p + (cycle + n) ≤ 284)
+  loose : base .full ≡ false → mode ≡ 3 → 80 ≤ cycle → line ≡ 0 → Paced p → (p .window ≡ true) ⊎ (leftAt x p + (cycle + n) ≤ 284)
       → Up base (place x line) l → Mid base n mode line cycle x p l
   ended : (mode ≡ 3 → ⊥) → 80 ≤ cycle → line < height → x ≡ 0 → Up base (width * (line + 1)) l → Mid base n mode line cycle x p l
   rest : (mode ≡ 3 → ⊥) → height ≤ line → x ≡ 0 → Up base places l → Mid base n mode line cycle x p l
@@ -177,7 +181,7 @@ module _ (base : Base) (n : ℕ) (lent : Tables) (s : State) (f : Fine s) (pace 
       by (stops g x u) = ended g (omega (arith, same-cycle)) (omega (arith, same-line)) x (up-same (omega (arith, same-line)) u)
 
   -- draws of line 0 after a blanking
-  from-loose : {l : List ℕ} → base .swap ≡ false → modeOf (ready .regs .stat) ≡ 3 → 80 ≤ ready .beam .cycle → ready .beam .line ≡ 0 → Paced (ready .pipe)
+  from-loose : {l : List ℕ} → base .full ≡ false → modeOf (ready .regs .stat) ≡ 3 → 80 ≤ ready .beam .cycle → ready .beam .line ≡ 0 → Paced (ready .pipe)
       → (ready .pipe .window ≡ true) ⊎ (left ready + ready .beam .cycle ≤ 284) → ready .beam .count < 65536 → Up base (spotNumber ready) l
       → MidOf base n (burst n (lent .vram) ready .state) (l ++ numbers (storedBy (burst n (lent .vram) ready .shots)))
   from-loose {l} z m low line o h k up = by (drawing n (lent .vram) ready l fine m k up)

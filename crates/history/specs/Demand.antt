@@ -16,20 +16,26 @@
 --     11 EveryNumber    proofs/Exists           every-number
 --     12 Reached        proofs/Exists           reached
 --     13 Begun          proofs/Exists           begun-frame
+--     14 MarkedUnseen   proofs/Unseen           marked-unseen
+--     15 FirstPicture   proofs/Unseen           first-picture
+--     16 Unshown        proofs/Exists           unshown
 use Prim.Native.Nat.{ℕ, _≤_, _<_}
 use mathlib.Core.Path.{_≡_}
 use mathlib.Core.Logic.{_↔_}
-use mathlib.Core.Bool.{Bool, true, false, not, _&&_}
-use mathlib.Core.List.{List, [], _∷_, List·Memᴰ}
+use mathlib.Core.Bool.{Bool, true, not, cond, _&&_}
+use mathlib.Core.List.{List, [], _∷_, _++_, List·Memᴰ}
 use denote.Ref.{RefT, now}
+use lib.Dec.{eqb}
 use lib.ListN.{length, replicate}
 use Rattle.hardware.specs.Screen.{places}
 use Rattle.hardware.specs.declared.Machine.{Machine}
 use Rattle.lcd.specs.Pictures.{Pictures, PicturesSized, SameLengths, chosen}
 use Rattle.state.specs.With.{modeOf}
+use Rattle.beam.specs.Marks.{isYes}
+use Rattle.beam.specs.declared.Mark.the-variants.{No, Unseen}
 use Rattle.step.specs.Step.{lit}
 use Rattle.ppu.specs.declared.StepAnswer.{StepAnswer}
-use Rattle.history.specs.Run.{World, Call, shown, number, Turn, stepping, numberOf, perform, freshWorld, swapped, blanked}
+use Rattle.history.specs.Run.{World, Call, write, shown, number, Turn, ours, stepping, numberOf, perform, freshWorld, swapped, blanked}
 use Rattle.history.specs.Public.{answer, shownPicture, Stepped, Pictured}
 use Rattle.history.specs.Stored.{Trace, through, go, trace, begun, numbers, from, allBytes}
 
@@ -114,19 +120,22 @@ repainted t p = record { world = record { state = t .world .state; tables = t .w
 abbrev pub EachOnce : Type 0
 EachOnce = EveryRun (λ (t : Trace). (p : Pictures) → PicturesSized p → AtOrigin (t .world) → Once (repainted t p))
 
--- 7. at every step that swaps, the mark in the caller's hand is yes exactly if every place was stored
-abbrev pub Mark : ℕ → Trace → StepAnswer → Type 0
-Mark n t r = (r .report .whole ≡ true) ↔ ((k : ℕ) → k < places → List·Memᴰ k (numbers (through (stepping n) t)))
+-- 7. at every step that swaps, the mark in the caller's hand is yes (whole, or whole but unseen) exactly if every place was stored
+abbrev pub AllStored : ℕ → Trace → Type 0
+AllStored n t = (k : ℕ) → k < places → List·Memᴰ k (numbers (through (stepping n) t))
+
+abbrev pub MarkedYes : ℕ → Trace → StepAnswer → Type 0
+MarkedYes n t r = (isYes (r .report .mark) ≡ true) ↔ AllStored n t
 
 abbrev pub Marked : Type 0
-Marked = EveryRun (EveryStep (λ (n : ℕ) (t : Trace) (r : StepAnswer). r .report .swapped ≡ true → Mark n t r))
+Marked = EveryRun (EveryStep (λ (n : ℕ) (t : Trace) (r : StepAnswer). r .report .swapped ≡ true → MarkedYes n t r))
 
 -- 8. a picture torn by a switch-off: after a blanking with LCD x not 0, whatever is done short of another blanking, the mark of
 -- the next swap is no
 abbrev pub TornFrom : Trace → Type 0
 TornFrom t =
     (after : List Turn) → staysOn after t ≡ true → staysHidden after t ≡ true
-    → EveryStep (λ (n : ℕ) (u : Trace) (r : StepAnswer). r .report .swapped ≡ true → r .report .whole ≡ false) (trace after t)
+    → EveryStep (λ (n : ℕ) (u : Trace) (r : StepAnswer). r .report .swapped ≡ true → r .report .mark ≡ No) (trace after t)
 
 abbrev pub Torn : Type 0
 Torn =
@@ -178,6 +187,46 @@ pub record Begins (t : Trace) : Type 0 where
 abbrev pub Begun : Type 0
 Begun = (machine : Machine) → Begins (go (stepping 4) (ran machine (replicate 13 (stepping 4))))
 
+-- 14. whole, but unseen: a blanking is among the turns, and no swap comes after it
+pub record BlankedIn (turns : List Turn) (t : Trace) : Type 0 where
+  pub before : List Turn
+  pub blanking : Turn
+  pub after : List Turn
+  pub split : turns ≡ before ++ (blanking ∷ after)
+  pub blanks : blanked blanking (trace before t .world) ≡ true
+  pub hidden : staysHidden after (go blanking (trace before t)) ≡ true
+
+-- the mark in the caller's hand is unseen exactly at a swap, after a blanking with no swap in between, with every place stored since
+-- (since the latest of such blankings: each fills the pictures)
+abbrev pub MarkedUnseen : Type 0
+MarkedUnseen =
+    (machine : Machine) (turns : List Turn)
+    → EveryStep (λ (n : ℕ) (t : Trace) (r : StepAnswer).
+    (r .report .mark ≡ Unseen) ↔ ((r .report .swapped ≡ true) × BlankedIn turns (begun (freshWorld machine)) × AllStored n t))
+    (ran machine turns)
+
+-- 15. for whoever files pictures: the first picture after a blanking is unseen exactly if LCD x was 0 at that blanking, else its
+-- mark is no
+abbrev pub FirstFrom : ℕ → Trace → Type 0
+FirstFrom x t =
+    (after : List Turn) → staysOn after t ≡ true → staysHidden after t ≡ true
+    → EveryStep (λ (n : ℕ) (u : Trace) (r : StepAnswer). r .report .swapped ≡ true → r .report .mark ≡ cond (eqb x 0) Unseen No)
+    (trace after t)
+
+abbrev pub FirstPicture : Type 0
+FirstPicture = EveryRun (λ (t : Trace). (c : Turn) → blanked c (t .world) ≡ true → FirstFrom (t .world .state .beam .x) (go c t))
+
+-- 16. and such pictures exist: a start, the display switched off and on, and 17,555 steps of 4; the last swaps, and its mark is
+-- unseen
+abbrev pub switched : List Turn
+switched = ours (write 0xFF40 0x11) ∷ ours (write 0xFF40 0x91) ∷ []
+
+abbrev pub Unshown : Type 0
+Unshown =
+    (machine : Machine) (r : StepAnswer) (left : World)
+    → Stepped 4 (trace (replicate 17554 (stepping 4)) (ran machine switched) .world) r left
+    → (r .report .swapped ≡ true) × (r .report .mark ≡ Unseen)
+
 -- all of them
 pub record Demand3 : Type 0 where
   pub never2 : Never2
@@ -193,3 +242,6 @@ pub record Demand3 : Type 0 where
   pub everyNumber : EveryNumber
   pub reached : Reached
   pub begun : Begun
+  pub markedUnseen : MarkedUnseen
+  pub firstPicture : FirstPicture
+  pub unshown : Unshown

@@ -61,10 +61,20 @@ freshPipe =
       discard = 0;
     }
 
--- line 153, cycle 400; picture A shown
+-- line 153, cycle 400; picture A shown; a start is no blanking
 abbrev pub freshBeam : Beam
 freshBeam =
-    record { line = lastLine; cycle = 400; x = 0; shown = 0; count = 0; end = 0; level = false; turned = false }
+    record {
+      line = lastLine;
+      cycle = 400;
+      x = 0;
+      shown = 0;
+      count = 0;
+      end = 0;
+      level = false;
+      turned = false;
+      blanked = false;
+    }
 
 -- the fresh state of a machine
 unfoldable pub freshState : Machine → State

@@ -99,6 +99,7 @@ fn fresh_beam() -> Beam
         end: 0,
         level: false,
         turned: false,
+        blanked: false,
     }
 }
 

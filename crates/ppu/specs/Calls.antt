@@ -10,6 +10,7 @@ use Rattle.lcd.specs.Pictures.{Pictures, filledWith}
 use Rattle.state.specs.declared.State.{State}
 use Rattle.memory.specs.Fresh.{freshState, cleared}
 use Rattle.registers.specs.Write.{kept, stateWritten, picturesWritten}
+use Rattle.beam.specs.declared.Mark.the-variants.{No}
 use Rattle.step.specs.Step.{report, stepped, picturesAfter}
 use Rattle.step.specs.declared.Report.{Report}
 use Rattle.terms.specs.Numbers.{startNumber, stepNumber, writeNumber}
@@ -19,7 +20,7 @@ use Rattle.ppu.specs.declared.StepAnswer.{StepAnswer}
 -- 0 or no
 abbrev pub noReport : Report
 noReport =
-    record { requests = 0; mode = 0; coincidence = false; ly = 0; swapped = false; whole = false; count = 0 }
+    record { requests = 0; mode = 0; coincidence = false; ly = 0; swapped = false; mark = No; count = 0 }
 
 pub record Start (m : Machine) (t : Tables) (p : Pictures) (r : Answer) (t′ : Tables) (p′ : Pictures) : Type 0 where
   pub number : r .number ≡ startNumber t p

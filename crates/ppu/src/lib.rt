@@ -4,6 +4,7 @@ ghost use mathlib.Core.Path.{_≡_};
 ghost use Rattle.hardware.specs.Tables.{tables};
 ghost use Rattle.lcd.specs.Pictures.{pictures};
 ghost use Rattle.ppu.specs.Calls.{Start, noReport, Step, RegisterWrite};
+use beam::Mark;
 use hardware::Machine;
 pub use ports::Answer;
 pub use ports::ReadAnswer;
@@ -55,7 +56,7 @@ fn no_report() -> Report
         coincidence: false,
         ly: 0,
         swapped: false,
-        whole: false,
+        mark: Mark::No,
         count: 0,
     }
 }

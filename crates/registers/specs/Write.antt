@@ -8,7 +8,7 @@ use Rattle.wrap.specs.Wrap.{bitAt}
 use Rattle.colors.specs.Palettes.{indexWritten, dataWritten, indexRead, dataRead}
 use Rattle.colors.specs.declared.PaletteSet.{PaletteSet}
 use Rattle.lcd.specs.Pictures.{Pictures, filledWith}
-use Rattle.state.specs.With.{withRegisters, withPalettes, withBeam, withPlace, withCount, withTurned}
+use Rattle.state.specs.With.{withRegisters, withPalettes, withBeam, withPlace, withCount, withTurned, withBlanked}
 use Rattle.state.specs.With.{withMode, withStat, withLy, withCgb}
 use Rattle.state.specs.declared.Registers.{Registers}
 use Rattle.state.specs.declared.Palettes.{Palettes}
@@ -57,9 +57,9 @@ blanks r address v = eqb address 0xFF40 && (bitAt (r .lcdc) 7 && not (bitAt v 7)
 abbrev pub blankedRegisters : Registers → Registers
 blankedRegisters r = withLy (withStat r (withMode (r .stat) 0)) 0
 
--- line 0, cycle 4, just turned on, no place stored; LCD x stays
+-- line 0, cycle 4, just turned on, no place stored; LCD x stays. Request 5: that it was blanked is kept until a swap
 abbrev pub blankedBeam : Beam → Beam
-blankedBeam b = withTurned (withCount (withPlace b 0 4) 0) true
+blankedBeam b = withBlanked (withTurned (withCount (withPlace b 0 4) 0) true) true
 
 abbrev pub blankedState : State → State
 blankedState s = withBeam (withRegisters s (blankedRegisters (s .regs))) (blankedBeam (s .beam))

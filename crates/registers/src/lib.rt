@@ -148,6 +148,7 @@ fn blank_beam(b: Beam) -> Beam
     n.cycle = 4;
     n.count = 0;
     n.turned = true;
+    n.blanked = true;
     n
 }
 

@@ -93,6 +93,7 @@ fn step(
 ) -> Reply {
     let taken = ppu::step(desk.state, vram, oam, a, b, cycles);
     let r = taken.report;
+    let mark = r.mark;
     let head = [
         taken.number,
         r.requests,
@@ -100,7 +101,7 @@ fn step(
         r.coincidence as u8,
         r.ly,
         r.swapped as u8,
-        r.whole as u8,
+        mark.number(),
         0,
     ];
     let tail = [

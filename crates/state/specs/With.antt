@@ -132,7 +132,8 @@ abbrev pub withDiscard : Pipe → ℕ → Pipe
 withDiscard p discard =
     record { fetcher = p .fetcher; bg = p .bg; obj = p .obj; window = p .window; wrow = p .wrow; discard = discard }
 
--- the beam: line and cycle, LCD x, the picture shown, the count, the mode 3 end, the STAT level, just turned on or not
+-- the beam: line and cycle, LCD x, the picture shown, the count, the mode 3 end, the STAT level, just turned on or not,
+-- blanked since the last swap or not
 abbrev pub withPlace : Beam → ℕ → ℕ → Beam
 withPlace b line cycle =
     record {
@@ -144,6 +145,7 @@ withPlace b line cycle =
       end = b .end;
       level = b .level;
       turned = b .turned;
+      blanked = b .blanked;
     }
 
 abbrev pub withX : Beam → ℕ → Beam
@@ -157,6 +159,7 @@ withX b x =
       end = b .end;
       level = b .level;
       turned = b .turned;
+      blanked = b .blanked;
     }
 
 abbrev pub withShown : Beam → ℕ → Beam
@@ -170,6 +173,7 @@ withShown b shown =
       end = b .end;
       level = b .level;
       turned = b .turned;
+      blanked = b .blanked;
     }
 
 abbrev pub withCount : Beam → ℕ → Beam
@@ -183,6 +187,7 @@ withCount b count =
       end = b .end;
       level = b .level;
       turned = b .turned;
+      blanked = b .blanked;
     }
 
 abbrev pub withEnd : Beam → ℕ → Beam
@@ -196,6 +201,7 @@ withEnd b end =
       end = end;
       level = b .level;
       turned = b .turned;
+      blanked = b .blanked;
     }
 
 abbrev pub withLevel : Beam → Bool → Beam
@@ -209,6 +215,7 @@ withLevel b level =
       end = b .end;
       level = level;
       turned = b .turned;
+      blanked = b .blanked;
     }
 
 abbrev pub withTurned : Beam → Bool → Beam
@@ -222,4 +229,19 @@ withTurned b turned =
       end = b .end;
       level = b .level;
       turned = turned;
+      blanked = b .blanked;
+    }
+
+abbrev pub withBlanked : Beam → Bool → Beam
+withBlanked b blanked =
+    record {
+      line = b .line;
+      cycle = b .cycle;
+      x = b .x;
+      shown = b .shown;
+      count = b .count;
+      end = b .end;
+      level = b .level;
+      turned = b .turned;
+      blanked = blanked;
     }

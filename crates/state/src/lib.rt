@@ -56,7 +56,7 @@ pub struct Pipe {
 }
 
 // The beam: line and cycle, LCD x, the picture shown, the places stored since the last swap or blanking, the cycle at
-// which mode 3 ended, the STAT level, and whether the display was just turned on.
+// which mode 3 ended, the STAT level, whether the display was just turned on, and whether it was blanked since the last swap.
 pub struct Beam {
     pub line: u8,
     pub cycle: u16,
@@ -66,6 +66,7 @@ pub struct Beam {
     pub end: u16,
     pub level: bool,
     pub turned: bool,
+    pub blanked: bool,
 }
 
 pub struct State {

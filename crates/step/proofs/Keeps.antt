@@ -18,13 +18,13 @@ ready-fine oam s f = searched-fine oam (entered s) (entered-fine s f)
 entered-same : (s : State) → Same s (entered s)
 entered-same s =
     entered-cases (Same s) s
-    (λ l c. record { line = refl; cycle = refl; shown = refl; lcdc = refl })
-    (λ l c. record { line = refl; cycle = refl; shown = refl; lcdc = refl })
-    (λ l c. record { line = refl; cycle = refl; shown = refl; lcdc = refl })
+    (λ l c. record { line = refl; cycle = refl; shown = refl; lcdc = refl; blanked = refl })
+    (λ l c. record { line = refl; cycle = refl; shown = refl; lcdc = refl; blanked = refl })
+    (λ l c. record { line = refl; cycle = refl; shown = refl; lcdc = refl; blanked = refl })
     (λ a b. same-refl)
 
 searched-same : (oam : List ℕ) (s : State) → Same s (searched oam s)
-searched-same oam s = searched-cases (Same s) oam s (record { line = refl; cycle = refl; shown = refl; lcdc = refl }) same-refl
+searched-same oam s = searched-cases (Same s) oam s (record { line = refl; cycle = refl; shown = refl; lcdc = refl; blanked = refl }) same-refl
 
 pub ready-same : (oam : List ℕ) (s : State) → Same s (searched oam (entered s))
 ready-same oam s = same-then (entered-same s) (searched-same oam (entered s))
@@ -42,4 +42,4 @@ module _ (n : ℕ) (t : Tables) (s : State) where
   unfolding settled compared working
   settled-same =
       let w = same-then (ready-same (t .oam) s) (burst-same n (t .vram) (searched (t .oam) (entered s))) in
-      record { line = w .line; cycle = w .cycle; shown = w .shown; lcdc = w .lcdc }
+      record { line = w .line; cycle = w .cycle; shown = w .shown; lcdc = w .lcdc; blanked = w .blanked }

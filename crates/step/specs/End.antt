@@ -8,7 +8,8 @@ use Rattle.state.specs.declared.Registers.{Registers}
 use Rattle.state.specs.declared.Beam.{Beam}
 use Rattle.state.specs.declared.State.{State}
 use Rattle.modes.specs.Modes.{begins, rests, levelOf, comparedRegisters}
-use Rattle.beam.specs.Advance.{swaps, whole, advancedBeam, advancedRegisters}
+use Rattle.beam.specs.Advance.{swaps, advancedBeam, advancedRegisters}
+use Rattle.beam.specs.Marks.{markOf}
 use Rattle.step.specs.Step.{lit}
 use Rattle.step.specs.declared.Report.{Report}
 use Rattle.step.specs.declared.Ended.{Ended}
@@ -34,7 +35,7 @@ reportBy n b t r =
       coincidence = bitAt (r .stat) 2;
       ly = r .ly;
       swapped = swaps n t;
-      whole = whole n t;
+      mark = markOf n t;
       count = t .count;
     }
 

@@ -11,7 +11,9 @@ use Rattle.state.specs.declared.State.{State}
 use Rattle.draw.specs.declared.Shot.{Shot}
 use Rattle.modes.specs.Modes.{entered, modeLevel, searched, levelOf, compared, rests}
 use Rattle.burst.specs.Burst.{Burst, burst, drawnInto}
-use Rattle.beam.specs.Advance.{swaps, advanced, whole}
+use Rattle.beam.specs.Advance.{swaps, advanced}
+use Rattle.beam.specs.Marks.{markOf}
+use Rattle.beam.specs.declared.Mark.the-variants.{No}
 use Rattle.step.specs.declared.Report.{Report}
 
 -- LCDC bit 7: the display is on
@@ -55,7 +57,7 @@ reportOf n s t u =
       coincidence = bitAt (u .regs .stat) 2;
       ly = u .regs .ly;
       swapped = swaps n (t .beam);
-      whole = whole n (t .beam);
+      mark = markOf n (t .beam);
       count = t .beam .count;
     }
 
@@ -67,7 +69,7 @@ offReport s =
       coincidence = bitAt (s .regs .stat) 2;
       ly = s .regs .ly;
       swapped = false;
-      whole = false;
+      mark = No;
       count = s .beam .count;
     }
 

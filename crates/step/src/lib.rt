@@ -10,20 +10,21 @@ ghost use Rattle.order.specs.Fine.{Fine};
 ghost use Rattle.step.specs.Step.{offReport, StepTaken};
 ghost use Rattle.step.specs.Work.{Steppable, Worked};
 ghost use Rattle.step.specs.End.{starting, drawing, requestsBy, reportBy, levelled, ended};
+use beam::Mark;
 use hardware::Machine;
 use state::Beam;
 use state::Registers;
 use state::State;
 
-// What a step answers: 01's request bits (1 VBlank, 2 STAT), the mode, the coincidence, LY, whether it swapped, whether the
-// picture is whole, and how many places were stored.
+// What a step answers: 01's request bits (1 VBlank, 2 STAT), the mode, the coincidence, LY, whether it swapped, the mark of the
+// picture, and how many places were stored.
 pub struct Report {
     pub requests: u8,
     pub mode: u8,
     pub coincidence: bool,
     pub ly: u8,
     pub swapped: bool,
-    pub whole: bool,
+    pub mark: Mark,
     pub count: u16,
 }
 
@@ -110,7 +111,7 @@ fn report_of(b: Beam, t: Beam, r: Registers, cycles: u8) -> Report
         coincidence: wrap::bit(r.stat, 2),
         ly: r.ly,
         swapped: beam::does_swap(t, cycles),
-        whole: beam::is_whole(t, cycles),
+        mark: beam::mark_of(t, cycles),
         count: t.count,
     }
 }
@@ -125,7 +126,7 @@ fn off_report(s: State) -> Report
         coincidence: wrap::bit(s.regs.stat, 2),
         ly: s.regs.ly,
         swapped: false,
-        whole: false,
+        mark: Mark::No,
         count: s.beam.count,
     }
 }

@@ -1,6 +1,7 @@
 
 // Appended at build time: between the given machine and the Rattle state, field by field, and the given parts that are
-// private. The count of stored places and whether the start wanted colour mode are no part of the given machine.
+// private. The count of stored places, whether it was blanked since the last swap and whether the start wanted colour mode
+// are no part of the given machine.
 
 pub mod more {
     pub use super::fifo::{BgFifo, SpriteFifo};
@@ -8,7 +9,7 @@ pub mod more {
 }
 
 impl Ppu {
-    /// Every field but the count, the wanted colour mode, VRAM, OAM and the pictures.
+    /// Every field but the count, the blanking, the wanted colour mode, VRAM, OAM and the pictures.
     pub fn part_set(&mut self, s: &rattle::state::State) {
         let r = &s.regs;
         self.lcd_control = LcdControl::from_bits_truncate(r.lcdc);
@@ -63,7 +64,7 @@ impl Ppu {
     }
 
     /// The state in its plain form: queues from slot 0 on, 0s where nothing stands.
-    pub fn part_state(&self, count: u16, cgb: bool) -> rattle::state::State {
+    pub fn part_state(&self, count: u16, blanked: bool, cgb: bool) -> rattle::state::State {
         use rattle::bg_attribs::BgAttribute;
         use rattle::state::{Beam, Fetcher, Palettes, Pipe, Registers, State, Waiting};
         let coord = self.sprite_priority_mode == SpritePriorityMode::ByCoord;
@@ -123,6 +124,7 @@ impl Ppu {
                 end: self.mode_3_end_cycle,
                 level: self.stat_interrupt_line,
                 turned: self.lcd_turned_on,
+                blanked,
             },
         }
     }
