@@ -520,34 +520,21 @@ fn unseen_cases(run: &mut Named) {
         format!("{:?}", pictures),
     ));
 
-    // Line 0 is behind the draws of mode 3 at cycle 300, and LCD x is 0 again.
-    let to_line_end = |run: &mut Run| steps(run, 75);
-    run.call(&[1, 1, 0]);
-    run.register(0x43, 1);
-    steps(run, TO_LINE_0);
-    to_column_100(run);
-    off_and_on(run);
-    to_line_end(run);
-    off_and_on(run);
-    let picture = next_swap(run, 4);
-    run.end(case(
-        "off and on at column 100, then behind the line: mark and count of the next picture",
-        "(2, 23040)",
-        format!("{:?}", picture),
-    ));
-    run.call(&[1, 1, 0]);
-    run.register(0x43, 1);
-    steps(run, TO_LINE_0);
-    to_line_end(run);
-    off_and_on(run);
-    to_column_100(run);
-    off_and_on(run);
-    let picture = next_swap(run, 4);
-    run.end(case(
-        "off and on behind the line, then at column 100: mark and count of the next picture",
-        "(0, 22940)",
-        format!("{:?}", picture),
-    ));
+    // Line 0 is drawn at cycle 300, and LCD x is 0 again.
+    let column: (&str, fn(&mut Run)) = ("at column 100", |run| assert_eq!(to_column_100(run), 100));
+    let behind: (&str, fn(&mut Run)) = ("behind the line", |run| steps(run, 75));
+    for (first, then, said) in [(column, behind, "(2, 23040)"), (behind, column, "(0, 22940)")] {
+        run.call(&[1, 1, 0]);
+        run.register(0x43, 1);
+        steps(run, TO_LINE_0);
+        for (_, go) in [first, then] {
+            go(run);
+            off_and_on(run);
+        }
+        let picture = next_swap(run, 4);
+        let name = format!("off and on {}, then {}: mark and count of the next picture", first.0, then.0);
+        run.end(case(&name, said, format!("{:?}", picture)));
+    }
     run.register(0x40, ON & 0x7F);
     run.digests();
     run.call(&[1, 1, 0]);

@@ -6,6 +6,7 @@ use borrow.Author.Tests.{eqb-true, eqb-false}
 use lib.Dec.{eqb}
 use Rattle.hardware.specs.Screen.{lineCycles, frameLines}
 use Rattle.state.specs.With.{withRegisters, withBeam, withLy}
+use Rattle.state.specs.declared.Beam.{Beam}
 use Rattle.state.specs.declared.State.{State}
 use Rattle.beam.specs.Advance.{ends, swaps, onward, nextLine, nextFrame, inLine, inNextLine, inNextFrame, advanced}
 use Rattle.beam.specs.Advance.{advancedBeam, advancedRegisters}
@@ -24,6 +25,14 @@ advanced-cases n s P within line frame = by (ends n (s .beam)) refl (eqb (s .bea
     by true e true f = frame (eqb-true _ _ e) (eqb-true _ _ f)
     by true e false f = line (eqb-true _ _ e) (eqb-false _ _ f)
     by false e q f = within (eqb-false _ _ e)
+
+-- a part of the beam that only a swap changes
+pub advanced-part : {A : Type 0} (part : Beam → A) (next : A → A) (n : ℕ) (s : State)
+    → part (onward n (s .beam)) ≡ part (s .beam) → part (nextLine (s .beam)) ≡ part (s .beam) → part (nextFrame (s .beam)) ≡ next (part (s .beam))
+    → part (advanced n s .beam) ≡ cond (swaps n (s .beam)) (next (part (s .beam))) (part (s .beam))
+advanced-part {A} part next n s within line frame =
+    advanced-cases n s (λ (b : Bool) (u : State). part (u .beam) ≡ cond b (next (part (s .beam))) (part (s .beam)))
+    (λ e. within) (λ e g. line) (λ e g. frame)
 
 -- only the registers and the beam advance
 pub advanced-groups : (n : ℕ) (s : State)

@@ -1,5 +1,5 @@
 -- Statement 6 of specs/Demand: from line 0, cycle 0 to the swap each place is stored once, and the picture holds the bytes.
-use mathlib.Core.Path.{_≡_, refl, sym, ap, ap₂, _∙_}
+use mathlib.Core.Path.{_≡_, refl, sym, ap, _∙_}
 use mathlib.Core.Bool.{Bool, true, false, not, cond, _&&_}
 use mathlib.Core.List.{List, [], _∷_}
 use Prim.Native.Nat.{ℕ, zero, suc, _+_, _≤_}
@@ -11,14 +11,14 @@ use Rattle.logic.proofs.Both.{first, second}
 use Rattle.hardware.specs.Screen.{places, pictureBytes, frameLines}
 use Rattle.hardware.specs.Tables.{Tables}
 use Rattle.lcd.specs.Pictures.{Pictures, PicturesSized, other, shownOf, hiddenOf}
+use Rattle.state.specs.declared.Beam.{Beam}
 use Rattle.state.specs.declared.Pipe.{Pipe}
 use Rattle.state.specs.declared.State.{State}
 use Rattle.draw.specs.declared.Shot.{Shot}
 use Rattle.burst.specs.Burst.{drawnInto}
-use Rattle.beam.specs.Advance.{ends, swaps, advanced}
-use Rattle.beam.proofs.Ways.{advanced-cases}
+use Rattle.beam.specs.Advance.{ends, swaps}
 use Rattle.registers.specs.Write.{kept, blanks, stateWritten}
-use Rattle.step.specs.Step.{lit, settled, stepped, shotsOf}
+use Rattle.step.specs.Step.{lit, stepped, shotsOf}
 use Rattle.step.proofs.Keeps.{settled-same}
 use Rattle.history.specs.Run.{World, Turn, stepping, Deed, steps, writes, colours, stores, nothing, does, shotsBy, swapsBy, blanksBy}
 use Rattle.history.specs.Run.{deedOf, perform, shotsFrom, swapped, blanked}
@@ -29,7 +29,7 @@ use Rattle.history.proofs.Rising.{rising-zero, rising-whole}
 use Rattle.history.proofs.Places.{stored-none}
 use Rattle.history.proofs.Picture.{put, all-stored, put-append, put-whole}
 use Rattle.history.proofs.Phase.{Base, Mid}
-use Rattle.history.proofs.Steps.{settled-swaps}
+use Rattle.history.proofs.Steps.{stepped-part}
 use Rattle.history.proofs.Invariant.{Inv, Full, of-runs, origin-full, on-full, lit-mid}
 use Rattle.history.proofs.Demand.{accepted-now, swaps-now, through-now, pace-now}
 
@@ -71,24 +71,10 @@ unfolding put
 put-none p = rw stored-none refl
 
 -- which picture is shown changes at a swap alone
-advanced-shown : (n : ℕ) (s : State) → advanced n s .beam .shown ≡ cond (swaps n (s .beam)) (other (s .beam .shown)) (s .beam .shown)
-advanced-shown n s =
-    advanced-cases n s (λ (b : Bool) (u : State). u .beam .shown ≡ cond b (other (s .beam .shown)) (s .beam .shown))
-    (λ e. refl) (λ e g. refl) (λ e g. refl)
-
 stepped-shown : (n : ℕ) (lent : Tables) (s : State)
     → stepped n lent s .beam .shown ≡ cond (lit s && swaps n (s .beam)) (other (s .beam .shown)) (s .beam .shown)
-unfolding stepped
-stepped-shown n lent s = by (lit s)
-  where
-    same : advanced n (settled n lent s) .beam .shown ≡ cond (swaps n (s .beam)) (other (s .beam .shown)) (s .beam .shown)
-    same =
-        advanced-shown n (settled n lent s)
-        ∙ ap₂ (λ (b : Bool) (k : ℕ). cond b (other k) k) (settled-swaps n lent s) (settled-same n lent s .shown)
-
-    by : (b : Bool) → cond b (advanced n (settled n lent s)) s .beam .shown ≡ cond (b && swaps n (s .beam)) (other (s .beam .shown)) (s .beam .shown)
-    by true = same
-    by false = refl
+stepped-shown n lent s =
+    stepped-part (λ (b : Beam). b .shown) other n lent s (λ b. refl) (λ b. refl) (λ b. refl) (settled-same n lent s .shown)
 
 written-hidden : (address value : ℕ) (w : World) → blanks (w .state .regs) address (kept address value) ≡ false
     → hidden (does (writes address value) w) ≡ put (hidden w) (storedBy [])

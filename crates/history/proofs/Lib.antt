@@ -31,6 +31,8 @@ pub mod Demand
 pub mod Frame
 -- statement 8: a picture torn by a switch-off
 pub mod Torn
+-- what the state keeps of a blanking
+pub mod Blanked
 -- statements 14 and 15: whole, but unseen; the first picture after a blanking
 pub mod Unseen
 -- statement 10: what the pictures held does not matter

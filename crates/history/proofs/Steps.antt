@@ -1,6 +1,6 @@
 -- One step of a display that is on: it keeps the order; the count, the phase, and that mode 3 is over where line 143 ends.
-use mathlib.Core.Path.{_≡_, refl}
-use mathlib.Core.Bool.{Bool, true, false, cond}
+use mathlib.Core.Path.{_≡_, refl, ap₂, _∙_}
+use mathlib.Core.Bool.{Bool, true, false, cond, _&&_}
 use mathlib.Core.List.{List, [], _++_}
 use Prim.Native.Nat.{ℕ, _+_, _%_, _<_}
 use native.Mathlib.Omega.{arith}
@@ -11,13 +11,14 @@ use Rattle.logic.proofs.Tests.{by-test}
 use Rattle.hardware.specs.Screen.{height, lineCycles}
 use Rattle.hardware.specs.Tables.{Tables}
 use Rattle.state.specs.With.{modeOf}
+use Rattle.state.specs.declared.Beam.{Beam}
 use Rattle.state.specs.declared.State.{State}
 use Rattle.order.specs.Fine.{Fine}
 use Rattle.burst.specs.Burst.{burst}
 use Rattle.modes.specs.Modes.{entered, searched, compared}
 use Rattle.modes.proofs.Fine.{compared-mode}
-use Rattle.beam.specs.Advance.{swaps, advanced}
-use Rattle.beam.proofs.Ways.{advanced-cases}
+use Rattle.beam.specs.Advance.{swaps, onward, nextLine, nextFrame, advanced}
+use Rattle.beam.proofs.Ways.{advanced-cases, advanced-part}
 use Rattle.beam.proofs.Fine.{advance-fine}
 use Rattle.step.specs.Step.{lit, working, settled, stepped}
 use Rattle.step.proofs.Keeps.{ready-fine, settled-fine, settled-same}
@@ -58,8 +59,7 @@ mid-ends f (Mid.rest m line x up) at end z = m z
 
 -- a swap sets the count 0
 pub advanced-count : (n : ℕ) (s : State) → advanced n s .beam .count ≡ cond (swaps n (s .beam)) 0 (s .beam .count)
-advanced-count n s =
-    advanced-cases n s (λ (b : Bool) (u : State). u .beam .count ≡ cond b 0 (s .beam .count)) (λ e. refl) (λ e g. refl) (λ e g. refl)
+advanced-count n s = advanced-part (λ (b : Beam). b .count) (λ k. 0) n s refl refl refl
 
 -- line 0, cycle 0 is where a swap leaves the beam
 pub advanced-origin : (n : ℕ) (s : State) → 0 < n → advanced n s .beam .line ≡ 0 → advanced n s .beam .cycle ≡ 0 → swaps n (s .beam) ≡ true
@@ -89,6 +89,23 @@ module _ (n : ℕ) (lent : Tables) (s : State) (f : Fine s) (c : s .beam .count 
 
 pub settled-swaps : (n : ℕ) (lent : Tables) (s : State) → swaps n (settled n lent s .beam) ≡ swaps n (s .beam)
 settled-swaps n lent s = let same = settled-same n lent s in rw (same .cycle, same .line) refl
+
+-- a part of the beam that only a swap changes, over a step
+pub stepped-part : {A : Type 0} (part : Beam → A) (next : A → A) (n : ℕ) (lent : Tables) (s : State)
+    → ((b : Beam) → part (onward n b) ≡ part b) → ((b : Beam) → part (nextLine b) ≡ part b) → ((b : Beam) → part (nextFrame b) ≡ next (part b))
+    → part (settled n lent s .beam) ≡ part (s .beam)
+    → part (stepped n lent s .beam) ≡ cond (lit s && swaps n (s .beam)) (next (part (s .beam))) (part (s .beam))
+unfolding stepped
+stepped-part {A} part next n lent s within line frame same = by (lit s)
+  where
+    u : Beam
+    u = settled n lent s .beam
+
+    by : (b : Bool) → part (cond b (advanced n (settled n lent s)) s .beam) ≡ cond (b && swaps n (s .beam)) (next (part (s .beam))) (part (s .beam))
+    by true =
+        advanced-part part next n (settled n lent s) (within u) (line u) (frame u)
+        ∙ ap₂ (λ (b : Bool) (k : A). cond b (next k) k) (settled-swaps n lent s) same
+    by false = refl
 
 module _ {base : Base} (n : ℕ) (lent : Tables) (s : State) (f : Fine s) (c : s .beam .count < 65536) (pace : Pace (s .beam .cycle) n)
     {l : List ℕ} (p : PhaseOf base s l) where

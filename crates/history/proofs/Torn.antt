@@ -1,7 +1,6 @@
 -- Statement 8 of specs/Demand: after a blanking with LCD x not 0 the first places of line 0 are missing at the next swap.
 use mathlib.Core.Path.{_≡_, refl, sym, subst, _∙_}
-use mathlib.Core.Bool.{Bool, true, false, cond}
-use mathlib.Core.List.{List}
+use mathlib.Core.Bool.{Bool, true, false}
 use Prim.Native.Nat.{ℕ}
 use native.Mathlib.Omega.{arith}
 use Rattle.logic.proofs.Tests.{clash}
@@ -10,11 +9,11 @@ use Rattle.beam.specs.Marks.{isYes}
 use Rattle.beam.specs.declared.Mark.the-variants.{No}
 use Rattle.beam.proofs.Marks.{mark-no}
 use Rattle.ppu.specs.declared.StepAnswer.{StepAnswer}
-use Rattle.history.specs.Run.{World, Deed, steps, writes, colours, stores, nothing, swapsBy, blanksBy, Turn, deedOf, swapped, blanked}
-use Rattle.history.specs.Stored.{Trace, go, trace}
-use Rattle.history.specs.Demand.{EveryStep, staysOn, staysHidden, TornFrom, Torn}
+use Rattle.history.specs.Run.{Deed, steps, writes, colours, stores, nothing, swapsBy, blanksBy, Turn, deedOf, swapped, blanked}
+use Rattle.history.specs.Stored.{Trace, go}
+use Rattle.history.specs.Demand.{EveryStep, TornFrom, Torn}
 use Rattle.history.proofs.Rising.{rising-member}
-use Rattle.history.proofs.Phase.{Base, swapBase, blankBase}
+use Rattle.history.proofs.Phase.{Base, blankBase}
 use Rattle.history.proofs.Invariant.{Inv, go-inv, of-runs, on-same}
 use Rattle.history.proofs.Answered.{told-swap}
 use Rattle.history.proofs.Demand.{hand-mark, now-rising}
