@@ -24,7 +24,7 @@ onward n b = withTurned (withPlace b (b .line) (b .cycle + n)) false
 abbrev pub nextLine : Beam → Beam
 nextLine b = withTurned (withPlace b (b .line + 1) 0) false
 
--- after 153 the pictures swap: line 0, LCD x 0, no place stored, no blanking since
+-- after 153 the pictures swap: line 0, LCD x 0, no place stored; request 5: no blanking since
 abbrev pub nextFrame : Beam → Beam
 nextFrame b =
     withBlanked (withShown (withCount (withX (withTurned (withPlace b 0 0) false) 0) 0) (other (b .shown))) false
