@@ -24,8 +24,8 @@ struct Sweep<'a> {
     bench: &'a mut Bench,
     slots: Cell<[SelectedSprite; 10]>,
     steps: u64,
-    /// The mark of the last step.
-    mark: u8,
+    /// The mark of the last step, if it swapped.
+    mark: Option<u8>,
 }
 
 /// What is done at a moment, by its number among those of all devices and lines.
@@ -38,7 +38,7 @@ impl<'a> Sweep<'a> {
             bench,
             slots: Cell::new(rattle::sprite::blank()),
             steps: 0,
-            mark: 0,
+            mark: None,
         }
     }
 
@@ -100,7 +100,7 @@ impl<'a> Sweep<'a> {
         let wanted = self.bench.given.answer(q);
         let got = step::step(s, &mut self.bench.memory, q[1]);
         self.steps += 1;
-        self.mark = got[6];
+        self.mark = (got[5] != 0).then(|| got[6]);
         if wanted != got {
             return Err(format!("  answer: wanted {:?}, got {:?}", wanted, got));
         }
@@ -163,7 +163,7 @@ impl<'a> Sweep<'a> {
         self.case(moment, &calls).map_err(|found| format!("  {at}\n{found}"))?;
         let wanted = if s.beam.x == 0 { 2 } else { 0 };
         let got = self.mark;
-        same(wanted, || got, || format!("{at}: the mark of the next swap"))
+        same(Some(wanted), || got, || format!("{at}: the mark of the next swap"))
     }
 
     /// Steps of 4 to a line.
