@@ -29,9 +29,9 @@ use Rattle.beam.specs.Advance.{ends, swaps, advanced}
 use Rattle.beam.proofs.Ways.{advanced-cases}
 use Rattle.step.specs.Step.{lit, settled, stepped}
 use Rattle.step.proofs.Keeps.{settled-fine, settled-same}
-use Rattle.history.specs.Run.{World, step, write, oam, shown, bug, number, Turn, ours, astray, stepping, freshWorld, swapped, blanked}
+use Rattle.history.specs.Run.{World, step, write, oam, shown, bug, number, ours, astray, stepping, freshWorld, swapped, blanked}
 use Rattle.history.specs.Stored.{Trace, go, trace, begun}
-use Rattle.history.specs.Demand.{AtOrigin, staysOn, staysHidden, Occurs, EveryNumber, Reaches, Reached, Begins, Begun, Unshown}
+use Rattle.history.specs.Demand.{AtOrigin, staysOn, staysHidden, Occurs, EveryNumber, Reaches, Reached, Begins, Begun, switchOff, switchOn, Unshown}
 use Rattle.history.proofs.Kept.{lent-fits}
 use Rattle.history.proofs.Phase.{Base, startBase}
 use Rattle.history.proofs.Steps.{settled-swaps}
@@ -168,18 +168,12 @@ fresh-at machine = record { base = startBase; inv = begun-inv machine; on = refl
 pub begun-frame : Begun
 begun-frame machine = begins (many 13 (fresh-at machine) refl (omega arith) .then)
 
--- the display switched off and on after a start: line 0, cycle 4
-abbrev switch-off : Turn
-switch-off = ours (write 0xFF40 0x11)
-
-abbrev switch-on : Turn
-switch-on = ours (write 0xFF40 0x91)
-
 -- a write to LCDC is accepted
 writes-lcdc : {base : Base} {t : Trace} → Inv base t → (value : ℕ) → number (write 0xFF40 value) (t .world) ≡ 0
 unfolding lowest listedIn writable
 writes-lcdc i value = rw (pictures-fit (i .sizes .pictures), ordered (i .fine)) refl
 
+-- the display switched off and on after a start: line 0, cycle 4
 module _ (machine : Machine) where
   abbrev fresh : Trace
   fresh = begun (freshWorld machine)
@@ -187,29 +181,29 @@ module _ (machine : Machine) where
   off-accepted : number (write 0xFF40 0x11) (fresh .world) ≡ 0
   off-accepted = writes-lcdc (begun-inv machine) 0x11
 
-  off-blanks : blanked switch-off (fresh .world) ≡ true
+  off-blanks : blanked switchOff (fresh .world) ≡ true
   unfolding freshState keptIn writable
   off-blanks = rw off-accepted refl
 
-  off-inv : Inv (baseAfter switch-off (fresh .world) startBase) (go switch-off fresh)
-  off-inv = go-inv switch-off (begun-inv machine)
+  off-inv : Inv (baseAfter switchOff (fresh .world) startBase) (go switchOff fresh)
+  off-inv = go-inv switchOff (begun-inv machine)
 
-  on-accepted : number (write 0xFF40 0x91) (go switch-off fresh .world) ≡ 0
+  on-accepted : number (write 0xFF40 0x91) (go switchOff fresh .world) ≡ 0
   on-accepted = writes-lcdc off-inv 0x91
 
-  on-blanks-not : blanked switch-on (go switch-off fresh .world) ≡ false
+  on-blanks-not : blanked switchOn (go switchOff fresh .world) ≡ false
   unfolding freshState stateWritten registersWritten keptIn writable
   on-blanks-not = rw (on-accepted, off-accepted) refl
 
-  on-swaps-not : swapped switch-on (go switch-off fresh .world) ≡ false
+  on-swaps-not : swapped switchOn (go switchOff fresh .world) ≡ false
   on-swaps-not = rw on-accepted refl
 
-  switched-at : At 4 (go switch-on (go switch-off fresh))
+  switched-at : At 4 (go switchOn (go switchOff fresh))
   unfolding freshState stateWritten registersWritten keptIn writable
   switched-at =
       record {
-        base = baseAfter switch-on (go switch-off fresh .world) (baseAfter switch-off (fresh .world) startBase);
-        inv = go-inv switch-on off-inv;
+        base = baseAfter switchOn (go switchOff fresh .world) (baseAfter switchOff (fresh .world) startBase);
+        inv = go-inv switchOn off-inv;
         on = rw (on-accepted, off-accepted) refl;
         at = rw (on-accepted, off-accepted) refl;
       }
@@ -221,7 +215,7 @@ unshown machine r left d =
     let m = many 17554 (switched-at machine) refl (omega arith) in
     let z = told-swap d ∙ swaps-at (m .then) refl refl in (
       z,
-      first-picture machine [] switch-off (off-blanks machine) (switch-on ∷ replicate 17554 (stepping 4))
+      first-picture machine [] switchOff (off-blanks machine) (switchOn ∷ replicate 17554 (stepping 4))
           (ap₂ (λ (x y : Bool). not x && y) (on-blanks-not machine) (m .stays))
           (ap₂ (λ (x y : Bool). not x && y) (on-swaps-not machine) (m .hides))
           4 r left d z,

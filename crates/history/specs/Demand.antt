@@ -218,13 +218,16 @@ FirstPicture = EveryRun (λ (t : Trace). (c : Turn) → blanked c (t .world) ≡
 
 -- 16. and such pictures exist: a start, the display switched off and on, and 17,555 steps of 4; the last swaps, and its mark is
 -- unseen
-abbrev pub switched : List Turn
-switched = ours (write 0xFF40 0x11) ∷ ours (write 0xFF40 0x91) ∷ []
+abbrev pub switchOff : Turn
+switchOff = ours (write 0xFF40 0x11)
+
+abbrev pub switchOn : Turn
+switchOn = ours (write 0xFF40 0x91)
 
 abbrev pub Unshown : Type 0
 Unshown =
     (machine : Machine) (r : StepAnswer) (left : World)
-    → Stepped 4 (trace (replicate 17554 (stepping 4)) (ran machine switched) .world) r left
+    → Stepped 4 (trace (replicate 17554 (stepping 4)) (ran machine (switchOff ∷ switchOn ∷ [])) .world) r left
     → (r .report .swapped ≡ true) × (r .report .mark ≡ Unseen)
 
 -- all of them
