@@ -1,14 +1,13 @@
 -- `sprite::select` meets its contract. The invariant: below i fewer than ten are in range, and the slots hold them.
 use mathlib.Core.Path.{_≡_, refl, ap, sym, _∙_}
 use mathlib.Core.Bool.{Bool, true, false, cond}
-use mathlib.Core.List.{List, [], _∷_, _++_, map, append-assoc, append-nil}
+use mathlib.Core.List.{List, [], _∷_, _++_, append-assoc, append-nil}
 use Prim.Native.Nat.{ℕ, zero, suc, _+_, _≤_, _<_, _-_}
-use native.Mathlib.Numerals.{add-one}
 use native.Mathlib.Nat.{zero-add, suc-add, sub-add-cancel}
 use native.Mathlib.Omega.{arith}
-use lib.ListN.{length, set, length-map, length-append}
-use lib.Seq.{drop-cons, set-at, take-at, take-all}
-use Rattle.sprite.specs.Pick.{upTo, those, lowestTen, touches, copyOf, slotsOf, selection}
+use lib.ListN.{length, set, length-append}
+use lib.Seq.{take-at, take-all}
+use Rattle.sprite.specs.Pick.{upTo, those, lowestTen, touches, slotsOf, selection}
 use Rattle.sprite.specs.Oam.{entry, inRange}
 use Rattle.sprite.specs.declared.Sprite.{Sprite}
 use Rattle.sprite.specs.declared.SelectedSprite.{SelectedSprite}
@@ -16,6 +15,7 @@ use Rattle.sprite.specs.declared.Selection.{Selection}
 use mathlib.Core.Logic.{⊎-elim}
 use borrow.Author.Needs.{needs}
 use Rattle.sprite.proofs.Those.{upTo-more, those-append, those-in, those-out}
+use Rattle.sprite.proofs.Slots.{slots-more}
 use Rattle.sprite.proofs.select.Statement.{statement}
 use Rattle.sprite.proofs.select.Tie as tie
 
@@ -41,17 +41,6 @@ lowestTen-all : (oam : List ℕ) (line tall : ℕ) → length (those (touches oa
     → lowestTen oam line tall ≡ those (touches oam line tall) (upTo 40)
 unfolding lowestTen
 lowestTen-all oam line tall h = take-all _ _ h
-
-map-append : {A B : Type 0} (f : A → B) (a b : List A) → map f (a ++ b) ≡ map f a ++ map f b
-map-append f [] b = refl
-map-append f (x ∷ a) b = ap (λ (l : List _). f x ∷ l) (map-append f a b)
-
--- the next free slot takes the next entry
-slots-more : (oam entries : List ℕ) (i : ℕ) (former : List SelectedSprite) → length entries < length former
-    → set (slotsOf oam entries former) (length entries) (copyOf oam i) ≡ slotsOf oam (entries ++ i ∷ []) former
-slots-more oam entries i former h =
-    rw
-    (drop-cons former (length entries) (copyOf oam i), set-at _ _ _ _ _ (length-map entries (copyOf oam)), map-append, length-append, append-assoc, add-one (length entries))
 
 -- below i: how many are in range, and the slots that hold them
 record Holds (oam : List ℕ) (line tall : ℕ) (former : List SelectedSprite) (i count : ℕ) (slots : List SelectedSprite) : Type 0 where
