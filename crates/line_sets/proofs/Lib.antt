@@ -15,3 +15,5 @@ pub mod Moves
 pub mod Laws
 -- how many lines a sprite touches, and how many sets a write changes
 pub mod Few
+-- two results that a promise allows coincide
+pub mod Coincide

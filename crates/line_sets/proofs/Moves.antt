@@ -31,23 +31,23 @@ put-twice i s v w =
     last true b = refl
     last false b = refl
 
-module _ (i : ℕ) (taken : Bool) (y tall : ℕ) (sets : List ℕ) where
+module _ (i : ℕ) (on : Bool) (y tall : ℕ) (sets : List ℕ) where
   abbrev here : ℕ → ℕ
-  here line = cond (inRange y line tall) (put i taken (getD sets line 0)) (getD sets line 0)
+  here line = cond (inRange y line tall) (put i on (getD sets line 0)) (getD sets line 0)
 
-  pub put-lines-length : length (putLines i taken y tall sets) ≡ height
+  pub put-lines-length : length (putLines i on y tall sets) ≡ height
   unfolding putLines
   put-lines-length = per-line-length here
 
-  pub put-lines-at : (line : ℕ) → line < height → getD (putLines i taken y tall sets) line 0 ≡ here line
+  pub put-lines-at : (line : ℕ) → line < height → getD (putLines i on y tall sets) line 0 ≡ here line
   unfolding putLines
   put-lines-at = per-line-at here
 
   -- the sets of any other sprite's lines stay sets
-  pub put-lines-sets : (other : ℕ) → areSets sets other tall ≡ true → areSets (putLines i taken y tall sets) other tall ≡ true
+  pub put-lines-sets : (other : ℕ) → areSets sets other tall ≡ true → areSets (putLines i on y tall sets) other tall ≡ true
   put-lines-sets other e =
-      are-sets-all (putLines i taken y tall sets) other tall
-      (λ line h r. rw (put-lines-at line h) (by-test (λ (s : ℕ). isSet s ≡ true) (inRange y line tall) (λ t. set-of (λ j. cond (eqb j i) taken (bitAt (getD sets line 0) j))) (λ t. are-sets-at sets other tall line h e r)))
+      are-sets-all (putLines i on y tall sets) other tall
+      (λ line h r. rw (put-lines-at line h) (by-test (λ (s : ℕ). isSet s ≡ true) (inRange y line tall) (λ t. set-of (λ j. cond (eqb j i) on (bitAt (getD sets line 0) j))) (λ t. are-sets-at sets other tall line h e r)))
 
 -- out on the old lines, in on the new ones
 pub moves : (i tall old new : ℕ) (sets : List ℕ) → (old ≡ new → ⊥)

@@ -34,8 +34,8 @@ linesOf y tall = those (λ line. inRange y line tall) (upTo height)
 
 -- entry i put in, or taken out, on the lines that a sprite at y touches
 unfoldable pub putLines : ℕ → Bool → ℕ → ℕ → List ℕ → List ℕ
-putLines i taken y tall sets =
-    perLine (λ line. cond (inRange y line tall) (put i taken (getD sets line 0)) (getD sets line 0))
+putLines i on y tall sets =
+    perLine (λ line. cond (inRange y line tall) (put i on (getD sets line 0)) (getD sets line 0))
 
 -- entry i goes from one y to another: on a line that the old or the new one touches its bit says whether the new one does,
 -- and every other set stays as it was, true or not. Where y stays, all do

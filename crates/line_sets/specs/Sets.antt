@@ -34,7 +34,7 @@ members s = those (bitAt s) (upTo entries)
 
 -- the set with entry i put in, or taken out
 abbrev pub put : ℕ → Bool → ℕ → ℕ
-put i taken s = setOf (λ j. cond (eqb j i) taken (bitAt s j))
+put i on s = setOf (λ j. cond (eqb j i) on (bitAt s j))
 
 -- the first of a list of entries, or nothing
 abbrev pub firstOf : List ℕ → Lowest

@@ -55,12 +55,12 @@ fn bit(i: u8) -> u64
 }
 
 // A set with entry i put in, or taken out.
-fn put(set: u64, i: u8, taken: bool) -> u64
+fn put(set: u64, i: u8, on: bool) -> u64
     requires { ⌜ (isSet set ≡ true) × (i < entries) ⌝ }
-    ensures { λ r. ⌜ r ≡ put i taken set ⌝ }
+    ensures { λ r. ⌜ r ≡ put i on set ⌝ }
 {
     let own = bit(i);
-    if taken { set | own } else { set & !own }
+    if on { set | own } else { set & !own }
 }
 
 // The line of a row of a sprite at y, modulo 256.
@@ -72,15 +72,15 @@ fn row_line(y: u8, row: u8) -> u8
 }
 
 // Puts entry i in, or takes it out, on the lines that a sprite at y touches.
-fn put_lines(sets: &mut [u64], i: u8, taken: bool, y: u8, tall: u8)
+fn put_lines(sets: &mut [u64], i: u8, on: bool, y: u8, tall: u8)
     requires { ⌜ (length (now sets) ≡ height) × (i < entries) × (areSets (now sets) y tall ≡ true) ⌝ }
-    ensures { λ _. ⌜ now (sets .exit) ≡ putLines i taken y tall (now (sets .entry)) ⌝ }
+    ensures { λ _. ⌜ now (sets .exit) ≡ putLines i on y tall (now (sets .entry)) ⌝ }
 {
-    let mut row = 0;
+    let mut row: u8 = 0;
     while row < tall {
         let line = row_line(y, row) as usize;
         if line < Machine::HEIGHT {
-            sets[line] = put(sets[line], i, taken);
+            sets[line] = put(sets[line], i, on);
         }
         row += 1;
     }

@@ -21,22 +21,22 @@ use Rattle.line_sets.proofs.put_lines.Tie as tie
 
 -- a line's set once the first rows are through
 PutTo : List ℕ → ℕ → Bool → ℕ → ℕ → List ℕ → Type 0
-PutTo sets₀ i taken y row sets =
-    (line : ℕ) → line < height → getD sets line 0 ≡ cond (inRange y line row) (put i taken (getD sets₀ line 0)) (getD sets₀ line 0)
+PutTo sets₀ i on y row sets =
+    (line : ℕ) → line < height → getD sets line 0 ≡ cond (inRange y line row) (put i on (getD sets₀ line 0)) (getD sets₀ line 0)
 
 abbrev Inv-loop : tie.InvT-loop
-Inv-loop sets₀ i taken y tall row₀ sets row = (row ≤ tall) × (length sets ≡ length sets₀) × PutTo sets₀ i taken y row sets
+Inv-loop sets₀ i on y tall row₀ sets row = (row ≤ tall) × (length sets ≡ length sets₀) × PutTo sets₀ i on y row sets
 
 abbrev μ-loop : tie.MeasureT-loop
-μ-loop sets₀ i taken y tall row₀ sets row = tall - row
+μ-loop sets₀ i on y tall row₀ sets row = tall - row
 
-put-none : (sets : List ℕ) (i : ℕ) (taken : Bool) (y : ℕ) → PutTo sets i taken y 0 sets
+put-none : (sets : List ℕ) (i : ℕ) (on : Bool) (y : ℕ) → PutTo sets i on y 0 sets
 unfolding PutTo
-put-none sets i taken y line h = rw (no-row y line)
+put-none sets i on y line h = rw (no-row y line)
 
 -- one row more, on its line
-module _ (sets₀ : List ℕ) (i : ℕ) (taken : Bool) (y row own : ℕ) (sets : List ℕ) (small : row < 256) (its : own ≡ rowLine y row)
-    (before : PutTo sets₀ i taken y row sets) where
+module _ (sets₀ : List ℕ) (i : ℕ) (on : Bool) (y row own : ℕ) (sets : List ℕ) (small : row < 256) (its : own ≡ rowLine y row)
+    (before : PutTo sets₀ i on y row sets) where
   -- its set is as it was
   unput : own < height → getD sets own 0 ≡ getD sets₀ own 0
   unfolding PutTo
@@ -46,28 +46,28 @@ module _ (sets₀ : List ℕ) (i : ℕ) (taken : Bool) (y row own : ℕ) (sets :
   put-set tall l e h = rw (unput h) (are-sets-at sets₀ y tall own h e (row-touches y row own small tall l its))
 
   -- and then it is put, or it is below the picture
-  put-more : length sets ≡ height → own < height → PutTo sets₀ i taken y (row + 1) (set sets own (put i taken (getD sets own 0)))
+  put-more : length sets ≡ height → own < height → PutTo sets₀ i on y (row + 1) (set sets own (put i on (getD sets own 0)))
   unfolding PutTo
   put-more l here line h = by (eqb line own) refl
     where
       by : (v : Bool) → eqb line own ≡ v
-          → getD (set sets own (put i taken (getD sets own 0))) line 0 ≡ cond (inRange y line (row + 1)) (put i taken (getD sets₀ line 0)) (getD sets₀ line 0)
+          → getD (set sets own (put i on (getD sets own 0))) line 0 ≡ cond (inRange y line (row + 1)) (put i on (getD sets₀ line 0)) (getD sets₀ line 0)
       by true e =
           let same = eqb-true line own e in
-          rw (same, row-reached y row own small its .1, getD-set-same sets own (put i taken (getD sets own 0)) 0 (rw l here), unput here)
+          rw (same, row-reached y row own small its .1, getD-set-same sets own (put i on (getD sets own 0)) 0 (rw l here), unput here)
       by false e =
           let other = eqb-false line own e in
-          getD-set-other sets own line (put i taken (getD sets own 0)) 0 other
+          getD-set-other sets own line (put i on (getD sets own 0)) 0 other
           ∙ before line h ∙ rw (row-elsewhere y row line small (omega (arith, h)) (λ z. other (z ∙ sym its)))
 
-  put-below : height ≤ own → PutTo sets₀ i taken y (row + 1) sets
+  put-below : height ≤ own → PutTo sets₀ i on y (row + 1) sets
   unfolding PutTo
   put-below below line h = before line h ∙ rw (row-elsewhere y row line small (omega (arith, h)) (λ z. omega (arith, h, below, its, z)))
 
-put-through : (sets₀ : List ℕ) (i : ℕ) (taken : Bool) (y tall : ℕ) (sets : List ℕ) → length sets ≡ height → PutTo sets₀ i taken y tall sets
-    → sets ≡ putLines i taken y tall sets₀
+put-through : (sets₀ : List ℕ) (i : ℕ) (on : Bool) (y tall : ℕ) (sets : List ℕ) → length sets ≡ height → PutTo sets₀ i on y tall sets
+    → sets ≡ putLines i on y tall sets₀
 unfolding PutTo putLines
-put-through sets₀ i taken y tall sets l h = per-line (λ line. cond (inRange y line tall) (put i taken (getD sets₀ line 0)) (getD sets₀ line 0)) sets l h
+put-through sets₀ i on y tall sets l h = per-line (λ line. cond (inRange y line tall) (put i on (getD sets₀ line 0)) (getD sets₀ line 0)) sets l h
 
 loop-holds : tie.Need-loop-holds Inv-loop μ-loop
 loop-holds c = (omega arith, omega arith, put-none _ _ _ _)
