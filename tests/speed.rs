@@ -3,6 +3,10 @@
 //!                                          and a line a scene has name, steps, nanoseconds given and unit, what it is
 //!   speed once SCENE given|unit all|none   one side, all of its steps or none, to be counted: the difference is the steps
 //!   speed list SCENE steps|writes          the scene as requests of the protocol `machine`: its steps, or as many OAM writes
+//! And what all lines are asked after an edit of OAM, by scanning it and by the sets of the lines:
+//!   speed lines ROUNDS                     every asking on both sides in turn; the answers are compared, and a line an asking
+//!                                          has name, edits, nanoseconds by scanning and by the sets, what it is
+//!   speed edits ASKING scan|sets all|none  one side, all of its edits or none, to be counted
 
 // of the harness only the bench, the calls and the states are used
 #![allow(dead_code)]
@@ -21,10 +25,13 @@ mod states;
 mod step;
 
 use bench::{fill, Bench, Memory};
+use given::list::Random;
 use given::machine::Requests;
 use given::ppu::Ppu;
-use rattle::ppu;
+use rattle::line_sets::{self, Lowest};
+use rattle::sprite::{self, Sprite};
 use rattle::state::State;
+use rattle::{ports, ppu};
 use std::arch::asm;
 use std::cell::Cell;
 use std::io::{self, BufWriter, Write};
@@ -274,8 +281,292 @@ fn list(scene: &Scene, steps: bool) -> io::Result<()> {
     out.flush()
 }
 
+/// The edits of an asking. Each gives an entry another y, the dearest edit where sets are kept.
+const EDITS: usize = 2_000;
+
+/// OAM by the ys of its forty entries, before and after every edit.
+struct Places {
+    name: &'static str,
+    what: &'static str,
+    y: fn(&mut Random) -> u8,
+}
+
+const PLACES: [Places; 3] = [
+    Places {
+        name: "scattered",
+        what: "scattered",
+        y: |random| 1 + random.below(159) as u8,
+    },
+    // the four rows of scene b
+    Places {
+        name: "rows",
+        what: "some ten a line",
+        y: |random| 16 + 36 * random.below(4) as u8,
+    },
+    // line 64 has them all, at either height
+    Places {
+        name: "one",
+        what: "forty on a line",
+        y: |random| 73 + random.below(8) as u8,
+    },
+];
+
+/// What all lines are asked after an edit: for the lists of their sprites, or for how many touch them and the first of those.
+struct Asking {
+    lists: bool,
+    tall: u8,
+    places: &'static Places,
+}
+
+/// OAM and the sets of the lines.
+#[derive(Clone)]
+struct Kept {
+    oam: Vec<u8>,
+    sets: Vec<u64>,
+}
+
+/// An address of OAM and a value.
+type Edit = (u16, u8);
+
+fn askings() -> Vec<Asking> {
+    let mut all = Vec::new();
+    for lists in [true, false] {
+        for places in &PLACES {
+            all.extend([8, 16].map(|tall| Asking {
+                lists,
+                tall,
+                places,
+            }));
+        }
+    }
+    all
+}
+
+impl Asking {
+    fn name(&self) -> String {
+        let kind = if self.lists { "lists" } else { "counts" };
+        format!("{}-{}-{}", kind, self.places.name, self.tall)
+    }
+
+    fn what(&self) -> String {
+        let kind = if self.lists {
+            "lists"
+        } else {
+            "count and first"
+        };
+        format!("{}, {}, height {}", kind, self.places.what, self.tall)
+    }
+
+    /// OAM with its sets, and the edits.
+    fn ready(&self) -> (Kept, Vec<Edit>) {
+        let mut random = Random::new(1);
+        let mut kept = Kept {
+            oam: vec![0; 160],
+            sets: vec![0; 144],
+        };
+        fill(&mut random, &mut kept.oam);
+        for entry in kept.oam.chunks_exact_mut(4) {
+            entry[0] = (self.places.y)(&mut random);
+        }
+        let mut oam = kept.oam.clone();
+        let mut edits = Vec::new();
+        while edits.len() < EDITS {
+            let (at, y) = (4 * random.below(40) as u16, (self.places.y)(&mut random));
+            if oam[at as usize] != y {
+                oam[at as usize] = y;
+                edits.push((0xFE00 + at, y));
+            }
+        }
+        let number = line_sets::build(&kept.oam, &mut kept.sets, self.tall);
+        assert_eq!(number, 0, "{}: the build is refused", self.name());
+        (kept, edits)
+    }
+
+    fn run(&self, by_sets: bool, m: &mut Kept, edits: &[Edit]) -> u64 {
+        match (self.lists, by_sets) {
+            (true, false) => lists_by_scan(m, self.tall, edits),
+            (true, true) => lists_by_sets(m, self.tall, edits),
+            (false, false) => counts_by_scan(m, self.tall, edits),
+            (false, true) => counts_by_sets(m, self.tall, edits),
+        }
+    }
+
+    /// Ends with 1 unless every line is answered alike after every edit, and the sets are those of a build.
+    fn compare(&self, kept: &Kept, edits: &[Edit]) {
+        let (mut scan, mut m) = (kept.clone(), kept.clone());
+        for (k, &(address, value)) in edits.iter().enumerate() {
+            let wanted = ports::write_oam(&mut scan.oam, address, value);
+            let got = line_sets::write_oam(&mut m.oam, &mut m.sets, self.tall, address, value);
+            line_sets::build(&scan.oam, &mut scan.sets, self.tall);
+            let same = wanted == got && scan.oam == m.oam && scan.sets == m.sets;
+            let line = (0..144).find(|&line| {
+                let (count, first) = (
+                    line_sets::count(&m.sets, line),
+                    line_sets::first(&m.sets, line),
+                );
+                sprite::pick(&scan.oam, line, self.tall) != line_sets::pick(&m.oam, &m.sets, line)
+                    || count_by_scan(&scan.oam, line, self.tall) != (count.count, first.first)
+                    || count.number + first.number != 0
+            });
+            let place = match line {
+                Some(line) => format!("line {}", line),
+                None if same => continue,
+                None => "OAM or the sets".to_string(),
+            };
+            println!(
+                "{}: the sides differ after edit {}: {}",
+                self.name(),
+                k,
+                place
+            );
+            exit(1)
+        }
+    }
+}
+
+/// How many entries touch a line, and the first of them: no entry waits for the one before, so that the compiler can take many
+/// at once. With `first` set where the count is still 0 it would take them one by one, and several times as long.
+#[inline(always)]
+fn count_by_scan(oam: &[u8], line: u8, tall: u8) -> (u8, Lowest) {
+    let (mut count, mut first) = (0, 40);
+    if oam.len() != 160 {
+        return (count, Lowest::Nothing);
+    }
+    for i in 0..40u8 {
+        let touches = Sprite::at(oam, i as usize).in_range(line, tall);
+        count += touches as u8;
+        first = first.min(if touches { i } else { 40 });
+    }
+    (
+        count,
+        if first < 40 {
+            Lowest::Entry(first)
+        } else {
+            Lowest::Nothing
+        },
+    )
+}
+
+fn index(first: Lowest) -> u64 {
+    match first {
+        Lowest::Nothing => 40,
+        Lowest::Entry(i) => i as u64,
+    }
+}
+
+// Each side has its loop: an edit, and all lines. What is answered is summed up, and a refusal would be seen in the sum.
+
+#[inline(never)]
+fn lists_by_scan(m: &mut Kept, tall: u8, edits: &[Edit]) -> u64 {
+    let mut sum = 0;
+    for &(address, value) in edits {
+        sum += 1_000_000 * ports::write_oam(&mut hidden(m).oam, address, value) as u64;
+        for line in 0..144 {
+            let mut t = sprite::pick(&hidden(m).oam, line, tall);
+            let t = hidden(&mut t);
+            sum += t.selection.count as u64 + 1_000_000 * t.number as u64;
+        }
+    }
+    *hidden(&mut sum)
+}
+
+#[inline(never)]
+fn lists_by_sets(m: &mut Kept, tall: u8, edits: &[Edit]) -> u64 {
+    let mut sum = 0;
+    for &(address, value) in edits {
+        let Kept { oam, sets } = hidden(m);
+        sum += 1_000_000 * line_sets::write_oam(oam, sets, tall, address, value) as u64;
+        for line in 0..144 {
+            let Kept { oam, sets } = hidden(m);
+            let mut t = line_sets::pick(oam, sets, line);
+            let t = hidden(&mut t);
+            sum += t.selection.count as u64 + 1_000_000 * t.number as u64;
+        }
+    }
+    *hidden(&mut sum)
+}
+
+#[inline(never)]
+fn counts_by_scan(m: &mut Kept, tall: u8, edits: &[Edit]) -> u64 {
+    let mut sum = 0;
+    for &(address, value) in edits {
+        sum += 1_000_000 * ports::write_oam(&mut hidden(m).oam, address, value) as u64;
+        for line in 0..144 {
+            let mut t = count_by_scan(&hidden(m).oam, line, tall);
+            let (count, first) = *hidden(&mut t);
+            sum += count as u64 + index(first);
+        }
+    }
+    *hidden(&mut sum)
+}
+
+#[inline(never)]
+fn counts_by_sets(m: &mut Kept, tall: u8, edits: &[Edit]) -> u64 {
+    let mut sum = 0;
+    for &(address, value) in edits {
+        let Kept { oam, sets } = hidden(m);
+        sum += 1_000_000 * line_sets::write_oam(oam, sets, tall, address, value) as u64;
+        for line in 0..144 {
+            let mut t = line_sets::count(&hidden(m).sets, line);
+            let t = hidden(&mut t);
+            sum += t.count as u64 + 1_000_000 * t.number as u64;
+            let mut t = line_sets::first(&hidden(m).sets, line);
+            let t = hidden(&mut t);
+            sum += index(t.first) + 1_000_000 * t.number as u64;
+        }
+    }
+    *hidden(&mut sum)
+}
+
+fn lines(rounds: usize) {
+    for asking in askings() {
+        let (kept, edits) = asking.ready();
+        asking.compare(&kept, &edits);
+        let mut times = [Vec::new(), Vec::new()];
+        // the first round is not measured
+        for k in 0..=rounds {
+            let mut sums = [0; 2];
+            for side in [k % 2, 1 - k % 2] {
+                let mut m = kept.clone();
+                let began = Instant::now();
+                sums[side] = asking.run(side == 1, &mut m, &edits);
+                let time = began.elapsed();
+                if k > 0 {
+                    times[side].push(time);
+                }
+            }
+            if sums[0] != sums[1] {
+                println!(
+                    "{}: the answers, summed up: scanning {}, the sets {}",
+                    asking.name(),
+                    sums[0],
+                    sums[1]
+                );
+                exit(1)
+            }
+        }
+        let [scan, sets] = times.map(median);
+        println!(
+            "{} {} {} {} {}",
+            asking.name(),
+            EDITS,
+            scan,
+            sets,
+            asking.what()
+        );
+    }
+}
+
+fn edits(asking: &Asking, by_sets: bool, all: bool) {
+    let (mut kept, edits) = asking.ready();
+    let mut count = if all { edits.len() } else { 0 };
+    let edits = &edits[..*hidden(&mut count)];
+    asking.run(by_sets, &mut kept, edits);
+}
+
 fn usage() -> ! {
     eprintln!("usage: speed times ROUNDS | once SCENE given|unit all|none | list SCENE steps|writes");
+    eprintln!("       speed lines ROUNDS | edits ASKING scan|sets all|none");
     exit(2)
 }
 
@@ -291,6 +582,14 @@ fn main() {
             Ok(rounds) if rounds > 0 => times(rounds),
             _ => usage(),
         },
+        ["lines", rounds] => match rounds.parse() {
+            Ok(rounds) if rounds > 0 => lines(rounds),
+            _ => usage(),
+        },
+        ["edits", name, side @ ("scan" | "sets"), part @ ("all" | "none")] => {
+            let asking = askings().into_iter().find(|asking| asking.name() == name);
+            edits(&asking.unwrap_or_else(|| usage()), side == "sets", part == "all")
+        }
         ["once", name, side @ ("given" | "unit"), part @ ("all" | "none")] => {
             once(scene(name), side == "unit", part == "all")
         }

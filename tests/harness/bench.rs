@@ -304,23 +304,23 @@ impl Bench {
         };
         let mut lines = Vec::new();
         let oam = self.given.ppu.look_oam();
-        lines.extend(first("OAM", 0, &oam, &self.memory.oam));
+        lines.extend(first_byte("OAM", 0, &oam, &self.memory.oam));
         let lcd = self.given.ppu.look_lcd();
         let (a, b) = (lcd.part_picture(0), lcd.part_picture(1));
-        lines.extend(first(
+        lines.extend(first_byte(
             "picture A",
             at.start,
             &a[at.clone()],
             &self.memory.a[at.clone()],
         ));
-        lines.extend(first(
+        lines.extend(first_byte(
             "picture B",
             at.start,
             &b[at.clone()],
             &self.memory.b[at.clone()],
         ));
         if line.is_none() {
-            lines.extend(first(
+            lines.extend(first_byte(
                 "VRAM",
                 0,
                 self.given.ppu.part_vram(),
@@ -422,7 +422,8 @@ pub fn fill(random: &mut Random, bytes: &mut [u8]) {
     }
 }
 
-fn first(name: &str, from: usize, wanted: &[u8], got: &[u8]) -> Option<String> {
+/// The first byte that is not as wanted, if there is one.
+pub fn first_byte(name: &str, from: usize, wanted: &[u8], got: &[u8]) -> Option<String> {
     if wanted == got {
         return None;
     }

@@ -246,10 +246,14 @@ fn check(
 
 /// How often each number was given.
 #[derive(Default)]
-struct Tally([u64; 6]);
+pub struct Tally([u64; 6]);
 
 impl Tally {
-    fn note(&self) -> String {
+    pub fn add(&mut self, number: u8) {
+        self.0[number as usize] += 1;
+    }
+
+    pub fn note(&self) -> String {
         let parts: Vec<String> = self
             .0
             .iter()
@@ -347,7 +351,7 @@ pub fn lengths(bench: &mut Bench) -> Result<(), String> {
         for &call in ALL.iter().chain(&more) {
             for s in &states {
                 let number = check(bench, call, s, &mut m, &kept)?;
-                tally.0[number as usize] += 1;
+                tally.add(number);
             }
         }
     }
@@ -451,7 +455,7 @@ pub fn disorder(bench: &mut Bench) -> Result<(), String> {
                     .chain([Step(5), WriteRegister(0, 0), ReadRegister(0)])
                 {
                     let number = check(bench, call, &s, &mut m, &kept)?;
-                    tally.0[number as usize] += 1;
+                    tally.add(number);
                 }
             }
         }
@@ -473,7 +477,7 @@ pub fn disorder(bench: &mut Bench) -> Result<(), String> {
         s.pipe.fetcher.row = [255; 8];
         for call in ALL {
             let number = check(bench, call, &s, &mut m, &kept)?;
-            tally.0[number as usize] += 1;
+            tally.add(number);
         }
     }
     bench.note = tally.note();
@@ -490,14 +494,14 @@ pub fn steps(bench: &mut Bench) -> Result<(), String> {
         s.regs.lcdc = if cycle % 16 == 0 { 0 } else { 0x91 };
         for cycles in 0..=255 {
             let number = check(bench, Step(cycles), &s, &mut m, &kept)?;
-            tally.0[number as usize] += 1;
+            tally.add(number);
         }
     }
     for clause in 0..CLAUSES {
         let s = broken(&lively(bench), clause);
         for cycles in 0..=255 {
             let number = check(bench, Step(cycles), &s, &mut m, &kept)?;
-            tally.0[number as usize] += 1;
+            tally.add(number);
         }
     }
     bench.note = tally.note();
@@ -522,7 +526,7 @@ pub fn addresses(bench: &mut Bench) -> Result<(), String> {
         for call in calls {
             for s in [&s, &out] {
                 let number = check(bench, call, s, &mut m, &kept)?;
-                tally.0[number as usize] += 1;
+                tally.add(number);
             }
         }
     }
@@ -541,7 +545,7 @@ pub fn moments(bench: &mut Bench) -> Result<(), String> {
             for call in [OamBug(0), OamBug(1), OamBug(2), OamBug(3)] {
                 for s in [s, broken(&s, 33)] {
                     let number = check(bench, call, &s, &mut m, &kept)?;
-                    tally.0[number as usize] += 1;
+                    tally.add(number);
                 }
             }
         }
@@ -550,7 +554,7 @@ pub fn moments(bench: &mut Bench) -> Result<(), String> {
     for line in 0..=255 {
         for tall in 0..=255 {
             let number = check(bench, Pick(line, tall), &s, &mut m, &kept)?;
-            tally.0[number as usize] += 1;
+            tally.add(number);
         }
     }
     bench.note = tally.note();
@@ -575,7 +579,7 @@ pub fn kinds(bench: &mut Bench) -> Result<(), String> {
                 }
                 for kind in 0..=255 {
                     let number = check(bench, OamBug(kind), &s, &mut m, &kept)?;
-                    tally.0[number as usize] += 1;
+                    tally.add(number);
                 }
             }
         }

@@ -204,6 +204,18 @@ impl Ppu {
         self.load_selected_sprites_oam();
     }
 
+    /// The selection of a line for sprites so tall, from empty slots.
+    pub fn part_pick(&mut self, line: u8, tall: u8) -> rattle::sprite::Selection {
+        self.scanline = line;
+        self.lcd_control.set(LcdControl::SPRITE_SIZE, tall == 16);
+        self.selected_oam = [SelectedSprite::default(); 10];
+        self.load_selected_sprites_oam();
+        rattle::sprite::Selection {
+            count: self.selected_oam_size,
+            slots: std::array::from_fn(|k| self.selected_oam[k].part()),
+        }
+    }
+
     pub fn part_try_enter_window(&mut self) {
         self.try_enter_window();
     }
