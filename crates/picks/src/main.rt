@@ -18,26 +18,15 @@ fn answer(request: &[u8]) -> Picked
     sprite::pick(&request[..end], request[end], request[end + 1])
 }
 
-// A space and a byte as a number. Each function that prints answers whether it could, and after a failed write prints no more.
-fn print_next(byte: u8) -> bool {
-    io::write_all(STDOUT_FILENO, b" ") && io::print_decimal(STDOUT_FILENO, byte as u64)
-}
-
-// One picked entry as a line: its index, y, x, tile and flags.
+// One picked entry as a line: its index, y, x, tile and flags. Each function that prints answers whether it could, and after a
+// failed write prints no more.
 fn print_slot(slot: SelectedSprite) -> bool {
     let sprite = slot.sprite;
     io::print_decimal(STDOUT_FILENO, slot.index as u64)
-        && print_next(sprite.y)
-        && print_next(sprite.x)
-        && print_next(sprite.tile)
-        && print_next(sprite.flags)
-        && io::write_all(STDOUT_FILENO, b"\n")
-}
-
-// A word, a number and the line's end.
-fn print_line(word: &[u8], number: u8) -> bool {
-    io::write_all(STDOUT_FILENO, word)
-        && io::print_decimal(STDOUT_FILENO, number as u64)
+        && wire::print_next(sprite.y)
+        && wire::print_next(sprite.x)
+        && wire::print_next(sprite.tile)
+        && wire::print_next(sprite.flags)
         && io::write_all(STDOUT_FILENO, b"\n")
 }
 
@@ -55,11 +44,11 @@ fn print_slots(slots: [SelectedSprite; 10], count: u8) -> bool {
 // The number of a refusal, or the picks.
 fn print_answer(answer: Picked) -> bool {
     if answer.number != 0 {
-        return print_line(b"refused ", answer.number);
+        return wire::print_line(b"refused ", answer.number);
     }
     let selection = answer.selection;
     let slots = selection.slots;
-    print_line(b"picked ", selection.count) && print_slots(slots, selection.count)
+    wire::print_line(b"picked ", selection.count) && print_slots(slots, selection.count)
 }
 
 // A request and one byte more, which tells a longer input from a whole one.

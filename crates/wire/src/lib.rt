@@ -1,5 +1,5 @@
-// What the programs share: requests and answers in buffers, what is said on standard error where a request has no answer, and
-// the FNV-1a digest of 64 bits.
+// What the programs share: requests and answers in buffers, numbers as text, what is said on standard error where a request has
+// no answer, and the FNV-1a digest of 64 bits.
 ghost use Prim.Native.Nat.{_≤_};
 use libc::STDERR_FILENO;
 use libc::STDIN_FILENO;
@@ -24,6 +24,18 @@ pub struct Arrived {
 pub fn is_at_end() -> bool {
     let mut byte = [0u8; 1];
     libc::read(STDIN_FILENO, &mut byte) == 0
+}
+
+// A space and a byte as a number. Each function that prints answers whether it could.
+pub fn print_next(byte: u8) -> bool {
+    io::write_all(STDOUT_FILENO, b" ") && io::print_decimal(STDOUT_FILENO, byte as u64)
+}
+
+// A word, a number and the line's end.
+pub fn print_line(word: &[u8], number: u8) -> bool {
+    io::write_all(STDOUT_FILENO, word)
+        && io::print_decimal(STDOUT_FILENO, number as u64)
+        && io::write_all(STDOUT_FILENO, b"\n")
 }
 
 // What comes after a read of so many bytes: a full buffer says nothing of it.
