@@ -1,4 +1,4 @@
-//! The test oracle: the given picture unit behind two lists of requests, and the makers of such lists.
+//! The test oracle: the given picture unit behind two lists of requests and the input of a program, and the makers of these.
 
 #![allow(dead_code, unused_macros)]
 
@@ -18,6 +18,7 @@ mod machine;
 mod machine_lists;
 mod missing;
 mod ppu;
+mod sprite_lists;
 mod sweep;
 mod sweep_check;
 
@@ -42,6 +43,10 @@ const USAGE: &str = "usage: oracle COMMAND
   machine-check [KIND]      counts over the requests on standard input; ends with 1 if a state is
                             not in order, or if one is missing that a list of that KIND (random,
                             sweep, cases, sample, writes, unknown) must hold
+  sprite-lists              the answer to the input of the program sprite_lists on standard input
+  sprite-lists-random SEED COUNT
+                            a random input of it with COUNT edits
+  sprite-lists-sample       such an input with 600 edits
 A list or an answer that cannot be written ends the oracle with 2.";
 
 /// Standard output. What cannot be written ends the oracle at once: a maker that went on would only be slow.
@@ -161,6 +166,11 @@ fn run(words: &[String]) -> io::Result<i32> {
             take_all(|request| check.take(request))?;
             return check.print(kind, &mut output());
         }
+        "sprite-lists" => sprite_lists::answer(io::stdin(), &mut output())?,
+        "sprite-lists-random" => {
+            sprite_lists::random(&mut output(), number(words.get(2)), number(words.get(3)))?
+        }
+        "sprite-lists-sample" => sprite_lists::sample(&mut output())?,
         _ => {
             eprintln!("{}", USAGE);
             return Ok(2);
