@@ -1,21 +1,19 @@
 -- How many lines a sprite touches, and how many sets a write changes.
 use mathlib.Core.Path.{_≡_, refl, ap, sym, _∙_}
-use mathlib.Core.Bool.{Bool, true, false, cond, _&&_, _||_, not}
+use mathlib.Core.Bool.{Bool, true, false, cond, not}
 use mathlib.Core.List.{List, [], _∷_}
-use Prim.Native.Nat.{ℕ, zero, suc, _+_, _%_, _≤_, _<_}
+use Prim.Native.Nat.{ℕ, zero, suc, _+_, _≤_, _<_}
 use native.Mathlib.Numerals.{add-one}
 use native.Mathlib.Omega.{arith}
 use lib.Dec.{eqb}
 use lib.ListN.{length, getD, length-append}
-use borrow.Author.Tests.{eq-eqb, eqb-true, eqb-false}
-use Rattle.logic.proofs.Tests.{clash}
+use borrow.Author.Tests.{eq-eqb, eqb-true}
 use Rattle.hardware.specs.Screen.{height}
 use Rattle.sprite.specs.Oam.{inRange}
 use Rattle.sprite.specs.Pick.{upTo, those}
 use Rattle.sprite.proofs.Those.{those-append}
 use Rattle.line_sets.specs.Lines.{linesOf, rowLine}
 use Rattle.line_sets.specs.Numbers.{isTall, oldY, newY}
-use Rattle.line_sets.specs.Calls.{Write}
 use Rattle.line_sets.specs.Laws.{FewLines, FewChange}
 use Rattle.line_sets.proofs.Lines.{no-row, row-elsewhere}
 use Rattle.line_sets.proofs.Accepted.{writes}

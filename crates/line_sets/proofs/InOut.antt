@@ -1,12 +1,12 @@
 -- An entry put into a set, or taken out, by the operations on numbers.
-use mathlib.Core.Path.{_≡_, refl, ap, sym, _∙_}
+use mathlib.Core.Path.{_≡_, refl, ap, _∙_}
 use mathlib.Core.Bool.{Bool, true, false, cond, _&&_, _||_, not}
-use mathlib.Core.Logic.{_⊎_, inl, inr, ⊎-elim}
-use Prim.Native.Nat.{ℕ, zero, suc, _+_, _-_, _*_, _/_, _%_, _^_, _<_, _≤_}
-use native.Mathlib.Nat.{mod-lt, pow-suc, lt-of-le-of-lt, eq-or-lt-of-le, le-of-suc-le-suc, zero-mul, one-mul, zero-add, add-zero}
+use mathlib.Core.Logic.{⊎-elim}
+use Prim.Native.Nat.{ℕ, zero, suc, _+_, _-_, _*_, _/_, _%_, _^_, _<_}
+use native.Mathlib.Nat.{mod-lt, pow-suc, lt-of-le-of-lt, eq-or-lt-of-le, le-of-suc-le-suc}
 use native.Mathlib.Omega.{arith}
 use lib.Dec.{eqb, lit<}
-use lib.Pow.{pow-lt, pow-pos}
+use lib.Pow.{pow-lt}
 use lib.Bits.{bitAnd, bitOr, and-shr, and-mod, or-shr, or-mod, or-lt, and-le-l}
 use borrow.Author.Tests.{ltb-true, eq-eqb, ne-eqb}
 use Rattle.wrap.specs.Wrap.{digitAt, bitAt}

@@ -1,32 +1,31 @@
 -- The laws of specs/Laws: what is true of the sets of OAM.
 use mathlib.Core.Path.{_≡_, refl, ap, sym, _∙_}
-use mathlib.Core.Bool.{Bool, true, false, cond, _&&_, _||_, not}
+use mathlib.Core.Bool.{Bool, true, false, cond, _&&_, _||_}
 use mathlib.Core.List.{List, [], _∷_}
-use Prim.Native.Nat.{ℕ, zero, suc, _*_, _/_, _%_, _^_, _≤_, _<_}
+use Prim.Native.Nat.{ℕ, zero, suc, _*_, _/_, _%_, _<_}
 use native.Mathlib.Omega.{arith}
 use lib.Dec.{eqb, ltb}
-use lib.ListN.{length, getD, set, take, length-set}
-use lib.Seq.{getD-set-same, getD-set-other}
-use borrow.Author.Tests.{eq-eqb, ne-eqb, lt-ltb, le-ltb, eqb-true, eqb-false, ltb-true, ltb-false}
+use lib.ListN.{length, getD, length-set}
+use lib.Seq.{getD-set-other}
+use borrow.Author.Tests.{eq-eqb, ne-eqb, lt-ltb, eqb-true, eqb-false, ltb-true}
 use Rattle.logic.proofs.Both.{both}
 use Rattle.logic.proofs.Tests.{by-test}
 use Rattle.refusals.specs.Ladder.{lowest, own, done}
-use Rattle.refusals.proofs.Given as given
 use Rattle.wrap.specs.Wrap.{bitAt}
 use Rattle.hardware.specs.Screen.{height}
 use Rattle.hardware.specs.Tables.{oamBytes, oamFits}
-use Rattle.sprite.specs.Oam.{entry, inRange}
-use Rattle.sprite.specs.Pick.{upTo, those, touches, lowestTen, blankSlots, nothingPicked, pickOf}
+use Rattle.sprite.specs.Oam.{inRange}
+use Rattle.sprite.specs.Pick.{upTo, those, touches, lowestTen, pickOf}
 use Rattle.sprite.specs.Pick as sprite
 use Rattle.sprite.proofs.Those.{those-append}
 use Rattle.memory.specs.Writes.{oamWritten}
 use Rattle.oam_bug.specs.Kinds.{corrupted}
 use Rattle.oam_bug.proofs.Rules.{length-corrupted}
-use Rattle.line_sets.specs.Sets.{entries, setOf, isSet, members, put, firstOf}
+use Rattle.line_sets.specs.Sets.{entries, setOf, isSet, members, put}
 use Rattle.line_sets.specs.Lines.{AreOf, built, moved}
-use Rattle.line_sets.specs.Numbers.{setsFit, bothFit, isTall, buildNumber, isAsked, lineNumber, pickNumber}
+use Rattle.line_sets.specs.Numbers.{isTall, buildNumber, isAsked, lineNumber, pickNumber}
 use Rattle.line_sets.specs.Numbers.{entryAt, oldY, newY, areSets, writeNumber}
-use Rattle.line_sets.specs.Calls.{Build, Write, countOf, firstOn, pickFrom}
+use Rattle.line_sets.specs.Calls.{Build, countOf, firstOn, pickFrom}
 use Rattle.line_sets.specs.Laws.{BuiltAreTrue, TrueAreBuilt, Builds, KeepsTrue, TrueAreTaken, OthersStay, NoYNoChange, OtherBytes}
 use Rattle.line_sets.specs.Laws.{CountsTouching, FindsFirst, PicksAsBefore, TrueAfterWrite, TrueAfterBug}
 use Rattle.line_sets.proofs.Bits.{bit-of, of-bits, bits-same}

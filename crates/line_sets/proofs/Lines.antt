@@ -1,19 +1,19 @@
 -- The lines of the picture, the rows of a sprite on them, and a number a line.
 use mathlib.Core.Path.{_≡_, refl, ap, sym, _∙_}
 use mathlib.Core.Bool.{Bool, true, false, cond, _&&_, _||_, not}
-use mathlib.Core.Logic.{_⊎_, inl, inr, ⊎-elim}
-use mathlib.Core.List.{List, [], _∷_, _++_, map}
-use Prim.Native.Nat.{ℕ, zero, suc, _+_, _-_, _%_, _<_, _≤_}
+use mathlib.Core.Logic.{⊎-elim}
+use mathlib.Core.List.{List, [], _∷_, map}
+use Prim.Native.Nat.{ℕ, zero, suc, _+_, _-_, _<_, _≤_}
 use native.Mathlib.Nat.{mod-lt, eq-or-lt-of-le, le-of-suc-le-suc}
 use native.Mathlib.Numerals.{add-one}
 use native.Mathlib.Omega.{arith}
-use lib.Dec.{eqb, ltb, lit<}
-use lib.ListN.{length, getD, length-append, length-map, List·getD-append, List·getD-map}
+use lib.Dec.{ltb, lit<}
+use lib.ListN.{length, getD, length-append, length-map, List·getD-append}
 use lib.Seq.{getD-at, ext-getD}
-use borrow.Author.Tests.{lt-ltb, le-ltb, ltb-true, ltb-false, eqb-true, eqb-false}
+use borrow.Author.Tests.{lt-ltb, le-ltb, ltb-true, ltb-false}
 use Rattle.logic.specs.Every.{every}
 use Rattle.logic.proofs.Every.{every-at, every-all}
-use Rattle.logic.proofs.Tests.{by-test, clash}
+use Rattle.logic.proofs.Tests.{clash}
 use Rattle.wrap.specs.Wrap.{minus}
 use Rattle.hardware.specs.Screen.{height}
 use Rattle.sprite.specs.Oam.{screenY, inRange}

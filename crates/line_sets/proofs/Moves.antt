@@ -1,9 +1,8 @@
 -- An entry put in and taken out on the lines of a sprite, one after the other: an entry that moves.
-use mathlib.Core.Path.{_≡_, refl, ap, sym, _∙_}
+use mathlib.Core.Path.{_≡_, refl, ap, _∙_}
 use mathlib.Core.Bool.{Bool, true, false, cond, _||_}
 use mathlib.Core.List.{List}
 use Prim.Native.Nat.{ℕ, _^_, _<_}
-use native.Mathlib.Omega.{arith}
 use lib.Dec.{eqb}
 use lib.ListN.{length, getD}
 use borrow.Author.Tests.{lt-ltb, ne-eqb}
@@ -12,7 +11,7 @@ use Rattle.wrap.specs.Wrap.{bitAt}
 use Rattle.hardware.specs.Screen.{height}
 use Rattle.sprite.specs.Oam.{inRange}
 use Rattle.line_sets.specs.Sets.{entries, setOf, isSet, put}
-use Rattle.line_sets.specs.Lines.{perLine, putLines, moved}
+use Rattle.line_sets.specs.Lines.{putLines, moved}
 use Rattle.line_sets.specs.Numbers.{areSets}
 use Rattle.line_sets.proofs.Bits.{bits-lt, bit-of, bits-same}
 use Rattle.line_sets.proofs.Lines.{per-line, per-line-at, per-line-length, are-sets-all, are-sets-at}

@@ -1,12 +1,11 @@
 // Which sprites touch which line: a set of OAM's entries for each line, kept beside OAM in lent numbers. Bit i of a line's
 // set says whether entry i touches the line, for sprites as tall as the sets were built for.
 ghost use mathlib.Core.Path.{_≡_};
-ghost use mathlib.Core.Bool.{true, cond};
+ghost use mathlib.Core.Bool.{true};
 ghost use Prim.Native.Nat.{_<_, _^_, _%_};
 ghost use lib.ListN.{length, replicate};
 ghost use Rattle.hardware.specs.Screen.{height};
 ghost use Rattle.hardware.specs.Tables.{oamBytes};
-ghost use Rattle.sprite.specs.Pick.{blankSlots, refusedPick};
 ghost use Rattle.line_sets.specs.Sets.{entries, isSet, members, put, firstOf, selectionFrom};
 ghost use Rattle.line_sets.specs.Lines.{rowLine, putLines, moved, built};
 ghost use Rattle.line_sets.specs.Numbers.{bothFit, isTall, buildNumber, isAsked, lineNumber, pickNumber};

@@ -5,7 +5,7 @@ use mathlib.Core.Logic.{⊎-elim}
 use mathlib.Core.List.{List}
 use Prim.Native.Nat.{ℕ, _+_, _-_, _≤_, _<_}
 use native.Mathlib.Omega.{arith}
-use lib.ListN.{length, getD}
+use lib.ListN.{getD}
 use lib.Dec.{eqb}
 use borrow.Author.Needs.{needs}
 use borrow.Author.Tests.{eqb-true, eqb-false}
@@ -15,7 +15,7 @@ use Rattle.sprite.specs.Oam.{inRange}
 use Rattle.line_sets.specs.Sets.{isSet}
 use Rattle.line_sets.specs.Lines.{rowLine}
 use Rattle.line_sets.specs.Numbers.{areSets}
-use Rattle.line_sets.proofs.Lines.{no-row, row-reached, row-elsewhere, row-touches, are-sets-all, are-sets-fails}
+use Rattle.line_sets.proofs.Lines.{no-row, row-elsewhere, row-touches, are-sets-all, are-sets-fails}
 use Rattle.line_sets.proofs.are_sets.Statement.{statement}
 use Rattle.line_sets.proofs.are_sets.Tie as tie
 

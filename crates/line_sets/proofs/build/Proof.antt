@@ -1,5 +1,5 @@
 -- `line_sets::build` meets its contract.
-use mathlib.Core.Path.{_≡_, sym, _∙_}
+use mathlib.Core.Path.{sym, _∙_}
 use borrow.Author.Needs.{needs}
 use Rattle.refusals.proofs.Given.{refused, accepted}
 use Rattle.line_sets.proofs.Accepted.{builds}

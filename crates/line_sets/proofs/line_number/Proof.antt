@@ -1,5 +1,4 @@
 -- `line_sets::line_number` meets its contract.
-use native.Mathlib.Omega.{arith}
 use borrow.Author.Needs.{needs}
 use borrow.Author.Tests.{eq-eqb, ne-eqb}
 use Rattle.refusals.specs.Ladder.{lowest}

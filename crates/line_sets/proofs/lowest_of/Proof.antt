@@ -1,9 +1,6 @@
 -- `line_sets::lowest_of` meets its contract.
-use mathlib.Core.Path.{_≡_, ap, sym, _∙_}
-use mathlib.Core.List.{List}
-use Prim.Native.Nat.{ℕ, _<_}
+use mathlib.Core.Path.{ap, sym}
 use native.Mathlib.Omega.{arith}
-use lib.Count.{trailingZeros}
 use Rattle.line_sets.specs.Sets.{firstOf}
 use Rattle.line_sets.proofs.Members.{members-none, lowered}
 use Rattle.line_sets.proofs.lowest_of.Statement.{statement}

@@ -1,5 +1,4 @@
 -- `line_sets::pick_number` meets its contract.
-use mathlib.Core.Path.{_≡_}
 use borrow.Author.Needs.{needs}
 use Rattle.logic.proofs.Tests.{failed, passed}
 use Rattle.refusals.specs.Ladder.{lowest}

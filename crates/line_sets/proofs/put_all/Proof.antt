@@ -10,9 +10,9 @@ use borrow.Author.Needs.{needs}
 use borrow.Author.Tests.{lt-ltb, le-ltb, eqb-true, eqb-false}
 use Rattle.wrap.specs.Wrap.{bitAt}
 use Rattle.hardware.specs.Screen.{height}
-use Rattle.sprite.specs.Oam.{entry, inRange}
+use Rattle.sprite.specs.Oam.{entry}
 use Rattle.sprite.specs.Pick.{touches}
-use Rattle.line_sets.specs.Sets.{entries, setOf, isSet, put}
+use Rattle.line_sets.specs.Sets.{entries, setOf, put}
 use Rattle.line_sets.specs.Lines.{built, putLines}
 use Rattle.line_sets.specs.Numbers.{areSets}
 use Rattle.line_sets.proofs.Bits.{bit-of, bits-same}

@@ -1,9 +1,8 @@
 -- `sprite_lists::edit_all` meets its contract. The invariant: the sets are OAM's.
-use mathlib.Core.Path.{_≡_, refl, sym, _∙_}
+use mathlib.Core.Path.{_≡_, refl}
 use Prim.Native.Nat.{_/_, _≤_, _-_}
 use native.Mathlib.Omega.{arith}
 use lib.ListN.{length}
-use borrow.Author.Needs.{needs}
 use Rattle.line_sets.specs.Lines.{AreOf}
 use Rattle.line_sets.proofs.Laws.{keeps-true}
 use Rattle.sprite_lists.proofs.edit_all.Statement.{statement}
