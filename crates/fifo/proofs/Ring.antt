@@ -121,9 +121,3 @@ module _ {A : Type 0} (size : ℕ) (blank : A) where
       let e : suc at % size ≡ (at % size + 1) % size % size = suc-mod at size ∙ rw (mod-mod, add-one) in
       let less : suc n - 1 ≡ n = omega arith in
       rw (live-round slots (suc at) ((at % size + 1) % size) n e, less)
-
--- element k of a row that is made colour by colour
-pub map-at : {A B : Type 0} (f : A → B) (l : List A) (k : ℕ) (a : A) (b : B) → k < length l → getD (map f l) k b ≡ f (getD l k a)
-map-at f [] k a b h = absurd (omega arith)
-map-at f (x ∷ l) zero a b h = refl
-map-at f (x ∷ l) (suc k) a b h = map-at f l k a b (omega arith)

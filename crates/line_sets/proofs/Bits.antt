@@ -13,10 +13,18 @@ use Rattle.wrap.specs.Wrap.{digitAt, bitAt}
 use Rattle.line_sets.specs.Sets.{bitsOf}
 
 -- a digit is 0 or 1
-pub digit-is : (d : ℕ) → d < 2 → d ≡ cond (eqb d 1) 1 0
-digit-is zero h = refl
-digit-is (suc zero) h = refl
-digit-is (suc (suc d)) h = absurd (omega arith)
+pub data Digit : ℕ → Type 0 where
+  off : Digit 0
+  on : Digit 1
+
+pub digit : (d : ℕ) → d < 2 → Digit d
+digit zero h = off
+digit (suc zero) h = on
+digit (suc (suc d)) h = absurd (omega arith)
+
+pub digit-is : {d : ℕ} → Digit d → d ≡ cond (eqb d 1) 1 0
+digit-is off = refl
+digit-is on = refl
 
 pub digit-test : (v : Bool) → eqb (cond v 1 0) 1 ≡ v
 digit-test true = refl
@@ -59,7 +67,7 @@ module _ (t : ℕ → Bool) where
   of-bits (suc n) s h b =
       let q : s / 2 ^ n < 2 = shr-lt 1 n (rw (one-add n) h) in
       let top : s / 2 ^ n ≡ cond (t n) 1 0 =
-      sym (mod-eq-of-lt q) ∙ digit-is (digitAt s n) (mod-lt (s / 2 ^ n) (lit< tt)) ∙ ap (λ (v : Bool). cond v 1 0) (b n (omega arith)) in
+      sym (mod-eq-of-lt q) ∙ digit-is (digit (digitAt s n) (mod-lt (s / 2 ^ n) (lit< tt))) ∙ ap (λ (v : Bool). cond v 1 0) (b n (omega arith)) in
       let rest : s % 2 ^ n ≡ bitsOf t n =
       of-bits n (s % 2 ^ n) (mod-lt s (pow-pos n)) (λ i l. ap (λ (d : ℕ). eqb d 1) (low-digit s n i l) ∙ b i (omega arith)) in
       sym (split s n) ∙ rw (top, rest)

@@ -17,7 +17,9 @@ use Rattle.line_sets.specs.Numbers.{isTall, oldY, newY}
 use Rattle.line_sets.specs.Laws.{FewLines, FewChange}
 use Rattle.line_sets.proofs.Lines.{no-row, row-elsewhere}
 use Rattle.line_sets.proofs.Accepted.{writes}
-use Rattle.line_sets.proofs.Laws.{others-stay, by-number, left-refused}
+use Rattle.logic.proofs.Tests.{by-number}
+use Rattle.refusals.proofs.Given.{left-refused}
+use Rattle.line_sets.proofs.Laws.{others-stay}
 
 -- how many of 0 to n - 1 pass a test, one by one
 passing : (ℕ → Bool) → ℕ → ℕ

@@ -11,18 +11,9 @@ use lib.Bits.{bitAnd, bitOr, and-shr, and-mod, or-shr, or-mod, or-lt, and-le-l}
 use borrow.Author.Tests.{ltb-true, eq-eqb, ne-eqb}
 use Rattle.wrap.specs.Wrap.{digitAt, bitAt}
 use Rattle.line_sets.specs.Sets.{entries, bitsOf, isSet, put}
-use Rattle.line_sets.proofs.Bits.{bit-of, of-bits}
+use Rattle.line_sets.proofs.Bits.{Digit, off, on, digit, bit-of, of-bits}
 
 -- two digits, and the bits of `|` and `&`
-data Digit : ℕ → Type 0 where
-  off : Digit 0
-  on : Digit 1
-
-digit : (d : ℕ) → d < 2 → Digit d
-digit zero h = off
-digit (suc zero) h = on
-digit (suc (suc d)) h = absurd (omega arith)
-
 or-digits : {a b : ℕ} → Digit a → Digit b → eqb (bitOr a b) 1 ≡ eqb a 1 || eqb b 1
 or-digits off off = refl
 or-digits off on = refl

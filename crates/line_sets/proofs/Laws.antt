@@ -9,8 +9,9 @@ use lib.ListN.{length, getD, length-set}
 use lib.Seq.{getD-set-other}
 use borrow.Author.Tests.{eq-eqb, ne-eqb, lt-ltb, eqb-true, eqb-false, ltb-true}
 use Rattle.logic.proofs.Both.{both}
-use Rattle.logic.proofs.Tests.{by-test}
-use Rattle.refusals.specs.Ladder.{lowest, own, done}
+use Rattle.logic.proofs.Tests.{by-test, by-number}
+use Rattle.refusals.specs.Ladder.{lowest, own}
+use Rattle.refusals.proofs.Given.{left-done, left-refused}
 use Rattle.wrap.specs.Wrap.{bitAt}
 use Rattle.hardware.specs.Screen.{height}
 use Rattle.hardware.specs.Tables.{oamBytes, oamFits}
@@ -74,21 +75,6 @@ true-are-built oam tall sets w = built-from oam tall sets (w .sized) (true-at oa
 
 built-true : (oam : List ℕ) (tall : ℕ) (sets : List ℕ) → sets ≡ built oam tall → AreOf oam tall sets
 built-true oam tall sets e = rw e (built-are-true oam tall)
-
--- what a call leaves, by its number
-module _ {r number : ℕ} (n : r ≡ number) (x y : List ℕ) {z : List ℕ} (e : z ≡ cond (done number) x y) where
-  left-done : r ≡ 0 → z ≡ x
-  left-done h = e ∙ rw (eq-eqb number 0 (sym n ∙ h)) refl
-
-  pub left-refused : (r ≡ 0 → ⊥) → z ≡ y
-  left-refused h = e ∙ rw (ne-eqb number 0 (λ k. h (n ∙ k))) refl
-
-pub by-number : (P : Type 0) (a b : ℕ) → (a ≡ b → P) → ((a ≡ b → ⊥) → P) → P
-by-number P a b f g = by (eqb a b) refl
-  where
-    by : (v : Bool) → eqb a b ≡ v → P
-    by true e = f (eqb-true a b e)
-    by false e = g (eqb-false a b e)
 
 pub builds : Builds
 builds oam sets tall r sets′ c = (

@@ -2,7 +2,7 @@
 use mathlib.Core.Path.{_≡_, refl, ap, sym, _∙_}
 use mathlib.Core.Bool.{Bool, true, false, cond, _&&_, _||_, not}
 use mathlib.Core.Logic.{⊎-elim}
-use mathlib.Core.List.{List, [], _∷_, map}
+use mathlib.Core.List.{List, [], _∷_}
 use Prim.Native.Nat.{ℕ, zero, suc, _+_, _-_, _<_, _≤_}
 use native.Mathlib.Nat.{mod-lt, eq-or-lt-of-le, le-of-suc-le-suc}
 use native.Mathlib.Numerals.{add-one}
@@ -13,6 +13,7 @@ use lib.Seq.{getD-at, ext-getD}
 use borrow.Author.Tests.{lt-ltb, le-ltb, ltb-true, ltb-false}
 use Rattle.logic.specs.Every.{every}
 use Rattle.logic.proofs.Every.{every-at, every-all}
+use Rattle.logic.proofs.Mapped.{map-at}
 use Rattle.logic.proofs.Tests.{clash}
 use Rattle.wrap.specs.Wrap.{minus}
 use Rattle.hardware.specs.Screen.{height}
@@ -36,11 +37,6 @@ upTo-at (suc n) k d h =
     (λ e. rw e (getD-at (upTo n) n [] d n (upTo-length n)))
     (λ l. List·getD-append (upTo n) (n ∷ []) d k (rw (upTo-length n) l) ∙ upTo-at n k d l)
     (eq-or-lt-of-le (le-of-suc-le-suc h))
-
-map-at : (f : ℕ → ℕ) (l : List ℕ) (k d e : ℕ) → k < length l → getD (map f l) k d ≡ f (getD l k e)
-map-at f [] k d e h = absurd (omega arith)
-map-at f (x ∷ l) zero d e h = refl
-map-at f (x ∷ l) (suc k) d e h = map-at f l k d e (le-of-suc-le-suc h)
 
 -- a number a line: how many, and each
 module _ (f : ℕ → ℕ) where

@@ -17,7 +17,7 @@ use borrow.Author.Tests.{ltb-true}
 use Rattle.wrap.specs.Wrap.{bitAt}
 use Rattle.sprite.specs.Pick.{upTo, those}
 use Rattle.line_sets.specs.Sets.{entries, isSet, members}
-use Rattle.line_sets.proofs.Bits.{digit-is}
+use Rattle.line_sets.proofs.Bits.{Digit, off, on, digit, digit-is}
 
 -- n numbers from i on
 span : ℕ → ℕ → List ℕ
@@ -49,6 +49,14 @@ found-those (suc n) i s =
 found-members : (s : ℕ) → members s ≡ found entries 0 s
 found-members s = rw (upTo-span entries) (found-those entries 0 s ∙ ap (found entries 0) (div-one s))
 
+-- the lowest bit, 0 or 1
+parity : {d : ℕ} → Digit d → (d ≡ 0) ⊎ (d ≡ 1)
+parity off = inl refl
+parity on = inr refl
+
+lowest : (s : ℕ) → Digit (s % 2)
+lowest s = digit (s % 2) (mod-lt s (lit< tt))
+
 half-lt : {s : ℕ} (n : ℕ) → s < 2 ^ suc n → s / 2 < 2 ^ n
 half-lt n h = shr-lt n 1 (rw (add-one n) h)
 
@@ -61,14 +69,8 @@ found-count : (n i s : ℕ) → s < 2 ^ n → length (found n i s) ≡ ones s
 unfolding found ones
 found-count zero i s h = rw (lt-one h)
 found-count (suc n) i s h =
-    longer (eqb (s % 2) 1) i (found n (suc i) (s / 2)) ∙ rw (found-count n (suc i) (s / 2) (half-lt n h), ← digit-is (s % 2) (mod-lt s (lit< tt)))
+    longer (eqb (s % 2) 1) i (found n (suc i) (s / 2)) ∙ rw (found-count n (suc i) (s / 2) (half-lt n h), ← digit-is (lowest s))
     (sym (ones-step s))
-
--- the lowest bit, 0 or 1
-parity : (d : ℕ) → d < 2 → (d ≡ 0) ⊎ (d ≡ 1)
-parity zero h = inl refl
-parity (suc zero) h = inr refl
-parity (suc (suc d)) h = absurd (omega arith)
 
 module _ (n i s : ℕ) where
   found-even : s % 2 ≡ 0 → found (suc n) i s ≡ found n (suc i) (s / 2)
@@ -127,7 +129,7 @@ take-lowest (suc k) (suc n) i s l h p =
     ⊎-elim
     (λ e. taken-even k n i s e (take-lowest k n (suc i) (s / 2) (le-of-suc-le-suc l) (half-lt n h) (λ z. p (omega arith))))
     (λ e. taken-odd k n i s e)
-    (parity (s % 2) (mod-lt s (lit< tt)))
+    (parity (lowest s))
 
 found-none : (n i : ℕ) → found n i 0 ≡ []
 unfolding found

@@ -5,3 +5,5 @@ pub mod Tests
 pub mod Both
 -- a test of every element of a list, by the parts of the list
 pub mod Every
+-- an element of a list that is made element by element
+pub mod Mapped

@@ -12,3 +12,11 @@ module _ {ℓ} {A : Type ℓ} {given number : ℕ} (e : given ≡ number) (x y :
 
   pub accepted : {z : A} → given ≡ 0 → z ≡ x → z ≡ cond (done number) x y
   accepted h p = rw (eq-eqb number 0 (sym e ∙ h)) p
+
+-- and what it left: read off the equation of a promise
+module _ {ℓ} {A : Type ℓ} {given number : ℕ} (e : given ≡ number) (x y : A) {z : A} (left : z ≡ cond (done number) x y) where
+  pub left-done : given ≡ 0 → z ≡ x
+  left-done h = left ∙ rw (eq-eqb number 0 (sym e ∙ h)) refl
+
+  pub left-refused : (given ≡ 0 → ⊥) → z ≡ y
+  left-refused h = left ∙ rw (ne-eqb number 0 (λ k. h (e ∙ k))) refl

@@ -11,7 +11,8 @@ use Rattle.fifo.specs.declared.BgFifoPixel.{BgFifoPixel}
 use Rattle.fifo.specs.declared.BgFifo.{BgFifo}
 use Rattle.fifo.specs.Ring.{laid}
 use Rattle.fifo.specs.Background.{bgBlank, bgInked, bgRow, bgPushed}
-use Rattle.fifo.proofs.Ring.{laid-more, map-at}
+use Rattle.logic.proofs.Mapped.{map-at}
+use Rattle.fifo.proofs.Ring.{laid-more}
 use Rattle.fifo.proofs.Background.{bg-row-length}
 use Rattle.fifo.proofs.BgFifo.push.Statement.{statement}
 use Rattle.fifo.proofs.BgFifo.push.Tie as tie

@@ -12,7 +12,8 @@ use Rattle.fifo.specs.declared.SpriteFifoPixel.{SpriteFifoPixel}
 use Rattle.fifo.specs.declared.SpriteFifo.{SpriteFifo}
 use Rattle.fifo.specs.Ring.{laid}
 use Rattle.fifo.specs.Sprites.{spriteBlank, spriteQueued, inked, inkedRow, over, merged, spritePushed}
-use Rattle.fifo.proofs.Ring.{live-at, laid-more, laid-past, map-at}
+use Rattle.logic.proofs.Mapped.{map-at}
+use Rattle.fifo.proofs.Ring.{live-at, laid-more, laid-past}
 use Rattle.fifo.proofs.Sprites.{sprite-length, inked-row-length, mix-length}
 use Rattle.fifo.proofs.SpriteFifo.push.Statement.{statement}
 use Rattle.fifo.proofs.SpriteFifo.push.Tie as tie
