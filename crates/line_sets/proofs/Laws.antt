@@ -23,7 +23,7 @@ use Rattle.memory.specs.Writes.{oamWritten}
 use Rattle.oam_bug.specs.Kinds.{corrupted}
 use Rattle.oam_bug.proofs.Rules.{length-corrupted}
 use Rattle.line_sets.specs.Sets.{entries, setOf, isSet, members, put}
-use Rattle.line_sets.specs.Lines.{AreOf, built, moved}
+use Rattle.line_sets.specs.Lines.{AreOf, touching, built, movedOn, moved}
 use Rattle.line_sets.specs.Numbers.{isTall, buildNumber, isAsked, lineNumber, pickNumber}
 use Rattle.line_sets.specs.Numbers.{entryAt, oldY, newY, areSets, writeNumber}
 use Rattle.line_sets.specs.Calls.{Build, countOf, firstOn, pickFrom}
@@ -43,13 +43,13 @@ those-same t u (suc n) h =
 
 -- the sets built afresh
 module _ (oam : List ℕ) (tall : ℕ) where
-  built-at : (line : ℕ) → line < height → getD (built oam tall) line 0 ≡ setOf (touches oam line tall)
+  built-at : (line : ℕ) → line < height → getD (built oam tall) line 0 ≡ touching oam tall line
   unfolding built
-  built-at = per-line-at (λ line. setOf (touches oam line tall))
+  built-at = per-line-at (touching oam tall)
 
   built-length : length (built oam tall) ≡ height
   unfolding built
-  built-length = per-line-length (λ line. setOf (touches oam line tall))
+  built-length = per-line-length (touching oam tall)
 
 pub built-are-true : BuiltAreTrue
 built-are-true oam tall =
@@ -60,15 +60,15 @@ built-are-true oam tall =
     }
 
 true-at : (oam : List ℕ) (tall : ℕ) (sets : List ℕ) → AreOf oam tall sets → (line : ℕ) → line < height
-    → getD sets line 0 ≡ setOf (touches oam line tall)
+    → getD sets line 0 ≡ touching oam tall line
 true-at oam tall sets w line h =
     of-bits (touches oam line tall) entries (getD sets line 0) (ltb-true _ _ (w .no-more line h)) (λ i l. w .bits line i h l)
 
 -- sets that are each the one built are those built
 built-from : (oam : List ℕ) (tall : ℕ) (sets : List ℕ) → length sets ≡ height
-    → ((line : ℕ) → line < height → getD sets line 0 ≡ setOf (touches oam line tall)) → sets ≡ built oam tall
+    → ((line : ℕ) → line < height → getD sets line 0 ≡ touching oam tall line) → sets ≡ built oam tall
 unfolding built
-built-from oam tall sets l h = per-line (λ line. setOf (touches oam line tall)) sets l h
+built-from oam tall sets l h = per-line (touching oam tall) sets l h
 
 pub true-are-built : TrueAreBuilt
 true-are-built oam tall sets w = built-from oam tall sets (w .sized) (true-at oam tall sets w)
@@ -107,22 +107,14 @@ module _ (i tall old new : ℕ) (sets : List ℕ) where
   moved-none e = rw (eq-eqb old new e)
 
   moved-at : (old ≡ new → ⊥) → (line : ℕ) → line < height
-      → getD (moved i tall old new sets) line 0
-      ≡ cond (inRange old line tall || inRange new line tall) (put i (inRange new line tall) (getD sets line 0)) (getD sets line 0)
+      → getD (moved i tall old new sets) line 0 ≡ movedOn i tall old new sets line
   unfolding moved
-  moved-at n line h =
-      rw (ne-eqb old new n)
-      (per-line-at
-      (λ line. cond (inRange old line tall || inRange new line tall) (put i (inRange new line tall) (getD sets line 0)) (getD sets line 0))
-      line h)
+  moved-at n line h = rw (ne-eqb old new n) (per-line-at (movedOn i tall old new sets) line h)
 
   moved-length : length sets ≡ height → length (moved i tall old new sets) ≡ height
   unfolding moved
   moved-length l =
-      by-test (λ (x : List ℕ). length x ≡ height) (eqb old new) (λ e. l)
-      (λ e.
-      per-line-length
-      (λ line. cond (inRange old line tall || inRange new line tall) (put i (inRange new line tall) (getD sets line 0)) (getD sets line 0)))
+      by-test (λ (x : List ℕ). length x ≡ height) (eqb old new) (λ e. l) (λ e. per-line-length (movedOn i tall old new sets))
 
 -- a write to entry i leaves the y of the others
 touches-other : (oam : List ℕ) (address value line tall j : ℕ) → (j ≡ entryAt address → ⊥)
@@ -132,7 +124,7 @@ touches-other oam address value line tall j n =
 
 written-at : (oam : List ℕ) (tall address value : ℕ) (sets : List ℕ) → AreOf oam tall sets → (line : ℕ) → line < height
     → getD (moved (entryAt address) tall (oldY oam address) (newY oam address value) sets) line 0
-    ≡ setOf (touches (oamWritten oam address value) line tall)
+    ≡ touching (oamWritten oam address value) tall line
 written-at oam tall address value sets w line h =
     by-number _ old new
     (λ e. rw (moved-none i tall old new sets e) (given ∙ same-is t u i other (ap (λ (y : ℕ). inRange y line tall) e)))

@@ -11,7 +11,7 @@ use Rattle.wrap.specs.Wrap.{bitAt}
 use Rattle.hardware.specs.Screen.{height}
 use Rattle.sprite.specs.Oam.{inRange}
 use Rattle.line_sets.specs.Sets.{entries, setOf, isSet, put}
-use Rattle.line_sets.specs.Lines.{putLines, moved}
+use Rattle.line_sets.specs.Lines.{putOn, putLines, movedOn, moved}
 use Rattle.line_sets.specs.Numbers.{areSets}
 use Rattle.line_sets.proofs.Bits.{bits-lt, bit-of, bits-same}
 use Rattle.line_sets.proofs.Lines.{per-line, per-line-at, per-line-length, are-sets-all, are-sets-at}
@@ -31,16 +31,13 @@ put-twice i s v w =
     last false b = refl
 
 module _ (i : ℕ) (on : Bool) (y tall : ℕ) (sets : List ℕ) where
-  abbrev here : ℕ → ℕ
-  here line = cond (inRange y line tall) (put i on (getD sets line 0)) (getD sets line 0)
-
   pub put-lines-length : length (putLines i on y tall sets) ≡ height
   unfolding putLines
-  put-lines-length = per-line-length here
+  put-lines-length = per-line-length (putOn i on y tall sets)
 
-  pub put-lines-at : (line : ℕ) → line < height → getD (putLines i on y tall sets) line 0 ≡ here line
+  pub put-lines-at : (line : ℕ) → line < height → getD (putLines i on y tall sets) line 0 ≡ putOn i on y tall sets line
   unfolding putLines
-  put-lines-at = per-line-at here
+  put-lines-at = per-line-at (putOn i on y tall sets)
 
   -- the sets of any other sprite's lines stay sets
   pub put-lines-sets : (other : ℕ) → areSets sets other tall ≡ true → areSets (putLines i on y tall sets) other tall ≡ true
@@ -54,8 +51,7 @@ pub moves : (i tall old new : ℕ) (sets : List ℕ) → (old ≡ new → ⊥)
 unfolding moved
 moves i tall old new sets n =
     rw (ne-eqb old new n)
-    (per-line (λ line. cond (inRange old line tall || inRange new line tall) (put i (inRange new line tall) (getD sets line 0)) (getD sets line 0))
-    (putLines i true new tall (putLines i false old tall sets)) (put-lines-length i true new tall (putLines i false old tall sets))
+    (per-line (movedOn i tall old new sets) (putLines i true new tall (putLines i false old tall sets)) (put-lines-length i true new tall (putLines i false old tall sets))
     (λ line h.
     put-lines-at i true new tall (putLines i false old tall sets) line h
     ∙ rw (put-lines-at i false old tall sets line h) (each (inRange old line tall) (inRange new line tall) (getD sets line 0))))

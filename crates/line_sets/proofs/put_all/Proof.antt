@@ -13,7 +13,7 @@ use Rattle.hardware.specs.Screen.{height}
 use Rattle.sprite.specs.Oam.{entry}
 use Rattle.sprite.specs.Pick.{touches}
 use Rattle.line_sets.specs.Sets.{entries, setOf, put}
-use Rattle.line_sets.specs.Lines.{built, putLines}
+use Rattle.line_sets.specs.Lines.{touching, built, putLines}
 use Rattle.line_sets.specs.Numbers.{areSets}
 use Rattle.line_sets.proofs.Bits.{bit-of, bits-same}
 use Rattle.line_sets.proofs.InOut.{bits-none}
@@ -81,7 +81,7 @@ module _ (oam : List ℕ) (tall n : ℕ) (sets : List ℕ) (w : Has oam tall n s
   has-all : n ≡ entries → sets ≡ built oam tall
   unfolding built
   has-all e =
-      per-line (λ line. setOf (touches oam line tall)) sets (w .sized)
+      per-line (touching oam tall) sets (w .sized)
       (λ line h. w .each line h ∙ bits-same (firsts oam line tall n) (touches oam line tall) entries
       (λ j l. ap (λ (b : Bool). b && touches oam line tall j) (lt-ltb j n (omega (arith, l, e)))))
 

@@ -1,6 +1,6 @@
 -- `line_sets::put_lines` meets its contract. The invariant: the lines of the rows so far have the entry put in, or taken out.
 use mathlib.Core.Path.{_≡_, refl, sym, _∙_}
-use mathlib.Core.Bool.{Bool, true, false, cond}
+use mathlib.Core.Bool.{Bool, true, false}
 use mathlib.Core.Logic.{⊎-elim}
 use mathlib.Core.List.{List}
 use Prim.Native.Nat.{ℕ, _+_, _-_, _≤_, _<_}
@@ -11,9 +11,8 @@ use lib.Dec.{eqb}
 use borrow.Author.Needs.{needs}
 use borrow.Author.Tests.{eqb-true, eqb-false}
 use Rattle.hardware.specs.Screen.{height}
-use Rattle.sprite.specs.Oam.{inRange}
 use Rattle.line_sets.specs.Sets.{isSet, put}
-use Rattle.line_sets.specs.Lines.{rowLine, putLines}
+use Rattle.line_sets.specs.Lines.{rowLine, putOn, putLines}
 use Rattle.line_sets.specs.Numbers.{areSets}
 use Rattle.line_sets.proofs.Lines.{no-row, row-reached, row-elsewhere, row-touches, per-line, are-sets-at}
 use Rattle.line_sets.proofs.put_lines.Statement.{statement}
@@ -21,8 +20,7 @@ use Rattle.line_sets.proofs.put_lines.Tie as tie
 
 -- a line's set once the first rows are through
 PutTo : List ℕ → ℕ → Bool → ℕ → ℕ → List ℕ → Type 0
-PutTo sets₀ i on y row sets =
-    (line : ℕ) → line < height → getD sets line 0 ≡ cond (inRange y line row) (put i on (getD sets₀ line 0)) (getD sets₀ line 0)
+PutTo sets₀ i on y row sets = (line : ℕ) → line < height → getD sets line 0 ≡ putOn i on y row sets₀ line
 
 abbrev Inv-loop : tie.InvT-loop
 Inv-loop sets₀ i on y tall row₀ sets row = (row ≤ tall) × (length sets ≡ length sets₀) × PutTo sets₀ i on y row sets
@@ -51,7 +49,7 @@ module _ (sets₀ : List ℕ) (i : ℕ) (on : Bool) (y row own : ℕ) (sets : Li
   put-more l here line h = by (eqb line own) refl
     where
       by : (v : Bool) → eqb line own ≡ v
-          → getD (set sets own (put i on (getD sets own 0))) line 0 ≡ cond (inRange y line (row + 1)) (put i on (getD sets₀ line 0)) (getD sets₀ line 0)
+          → getD (set sets own (put i on (getD sets own 0))) line 0 ≡ putOn i on y (row + 1) sets₀ line
       by true e =
           let same = eqb-true line own e in
           rw (same, row-reached y row own small its .1, getD-set-same sets own (put i on (getD sets own 0)) 0 (rw l here), unput here)
@@ -67,7 +65,7 @@ module _ (sets₀ : List ℕ) (i : ℕ) (on : Bool) (y row own : ℕ) (sets : Li
 put-through : (sets₀ : List ℕ) (i : ℕ) (on : Bool) (y tall : ℕ) (sets : List ℕ) → length sets ≡ height → PutTo sets₀ i on y tall sets
     → sets ≡ putLines i on y tall sets₀
 unfolding PutTo putLines
-put-through sets₀ i on y tall sets l h = per-line (λ line. cond (inRange y line tall) (put i on (getD sets₀ line 0)) (getD sets₀ line 0)) sets l h
+put-through sets₀ i on y tall sets l h = per-line (putOn i on y tall sets₀) sets l h
 
 loop-holds : tie.Need-loop-holds Inv-loop μ-loop
 loop-holds c = (omega arith, omega arith, put-none _ _ _ _)
