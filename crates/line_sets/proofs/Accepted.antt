@@ -12,8 +12,9 @@ use Rattle.refusals.specs.Ladder.{own}
 use Rattle.refusals.proofs.Ladder.{lowest-none, own-none}
 use Rattle.hardware.specs.Screen.{height}
 use Rattle.hardware.specs.Tables.{oamBytes, oamFits}
+use Rattle.sprite.specs.Pick.{isTall}
 use Rattle.line_sets.specs.Sets.{isSet}
-use Rattle.line_sets.specs.Numbers.{setsFit, bothFit, isTall, buildNumber, isAsked, lineNumber, pickNumber}
+use Rattle.line_sets.specs.Numbers.{setsFit, bothFit, buildNumber, isAsked, lineNumber, pickNumber}
 use Rattle.line_sets.specs.Numbers.{oldY, newY, areSets, isWritable, writeNumber}
 
 -- both slices have their length
@@ -44,9 +45,13 @@ picks oam sets line e =
     let p = lowest-none (bothFit oam sets) true e in
     record { whole = both-sized oam sets (p .sized) .0; asked = asks sets line (second (oamFits oam) _ (p .sized)) (p .own) }
 
-pub builds : (oam sets : List ℕ) (tall : ℕ) → buildNumber oam sets tall ≡ 0 → (length oam ≡ oamBytes) × (length sets ≡ height)
+pub builds : (oam sets : List ℕ) (tall : ℕ) → buildNumber oam sets tall ≡ 0
+    → (length oam ≡ oamBytes) × (length sets ≡ height) × (isTall tall ≡ true)
 unfolding buildNumber
-builds oam sets tall e = both-sized oam sets (lowest-none (bothFit oam sets) true e .sized)
+builds oam sets tall e =
+    let p = lowest-none (bothFit oam sets) true e in
+    let b = both-sized oam sets (p .sized) in
+    (b .0, b .1, own-none (isTall tall) (omega arith) (p .own))
 
 pub record Writes (oam sets : List ℕ) (rows address value : ℕ) : Type 0 where
   pub whole : length oam ≡ oamBytes

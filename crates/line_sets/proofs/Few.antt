@@ -10,10 +10,10 @@ use lib.ListN.{length, getD, length-append}
 use borrow.Author.Tests.{eq-eqb, eqb-true}
 use Rattle.hardware.specs.Screen.{height}
 use Rattle.sprite.specs.Oam.{inRange}
-use Rattle.sprite.specs.Pick.{upTo, those}
+use Rattle.sprite.specs.Pick.{upTo, those, isTall}
 use Rattle.sprite.proofs.Those.{those-append}
 use Rattle.line_sets.specs.Lines.{linesOf, rowLine}
-use Rattle.line_sets.specs.Numbers.{isTall, oldY, newY}
+use Rattle.line_sets.specs.Numbers.{oldY, newY}
 use Rattle.line_sets.specs.Laws.{FewLines, FewChange}
 use Rattle.line_sets.proofs.Lines.{no-row, row-elsewhere}
 use Rattle.line_sets.proofs.Accepted.{writes}

@@ -9,14 +9,14 @@ use lib.ListN.{length, getD, length-set}
 use lib.Seq.{getD-set-other}
 use borrow.Author.Tests.{eq-eqb, ne-eqb, lt-ltb, eqb-true, eqb-false, ltb-true}
 use Rattle.logic.proofs.Both.{both}
-use Rattle.logic.proofs.Tests.{by-test, by-number}
+use Rattle.logic.proofs.Tests.{by-test, clash, by-number}
 use Rattle.refusals.specs.Ladder.{lowest, own}
 use Rattle.refusals.proofs.Given.{left-done, left-refused}
 use Rattle.wrap.specs.Wrap.{bitAt}
 use Rattle.hardware.specs.Screen.{height}
 use Rattle.hardware.specs.Tables.{oamBytes, oamFits}
 use Rattle.sprite.specs.Oam.{inRange}
-use Rattle.sprite.specs.Pick.{upTo, those, touches, lowestTen, pickOf}
+use Rattle.sprite.specs.Pick.{upTo, those, touches, lowestTen, isTall, pickOf}
 use Rattle.sprite.specs.Pick as sprite
 use Rattle.sprite.proofs.Those.{those-append}
 use Rattle.memory.specs.Writes.{oamWritten}
@@ -24,15 +24,15 @@ use Rattle.oam_bug.specs.Kinds.{corrupted}
 use Rattle.oam_bug.proofs.Rules.{length-corrupted}
 use Rattle.line_sets.specs.Sets.{entries, setOf, isSet, members, put}
 use Rattle.line_sets.specs.Lines.{AreOf, touching, built, movedOn, moved}
-use Rattle.line_sets.specs.Numbers.{isTall, buildNumber, isAsked, lineNumber, pickNumber}
+use Rattle.line_sets.specs.Numbers.{buildNumber, isAsked, lineNumber, pickNumber}
 use Rattle.line_sets.specs.Numbers.{entryAt, oldY, newY, areSets, writeNumber}
 use Rattle.line_sets.specs.Calls.{Build, countOf, firstOn, pickFrom}
-use Rattle.line_sets.specs.Laws.{BuiltAreTrue, TrueAreBuilt, Builds, KeepsTrue, TrueAreTaken, OthersStay, NoYNoChange, OtherBytes}
+use Rattle.line_sets.specs.Laws.{BuiltAreTrue, TrueAreBuilt, Builds, KeepsTrue, TrueAreTaken, WritesAsBefore, OthersStay, NoYNoChange, OtherBytes}
 use Rattle.line_sets.specs.Laws.{CountsTouching, FindsFirst, PicksAsBefore, TrueAfterWrite, TrueAfterBug}
 use Rattle.line_sets.proofs.Bits.{bit-of, of-bits, bits-same}
 use Rattle.line_sets.proofs.Lines.{per-line, per-line-at, per-line-length, are-sets-all}
 use Rattle.line_sets.proofs.Moves.{set-of}
-use Rattle.line_sets.proofs.Accepted.{picks}
+use Rattle.line_sets.proofs.Accepted.{picks, writes}
 
 -- tests that agree on 0 to n - 1 keep the same of them
 those-same : (t u : ℕ → Bool) (n : ℕ) → ((i : ℕ) → i < n → t i ≡ u i) → those t (upTo n) ≡ those u (upTo n)
@@ -184,6 +184,16 @@ true-are-taken oam sets tall address value w whole t h =
     let sets-of : (y : ℕ) → areSets sets y tall ≡ true = λ y. are-sets-all sets y tall (λ line l r. w .no-more line l) in
     none-given _ _ (both (eq-eqb _ _ whole) (eq-eqb _ _ (w .sized)))
     (both (both (both t (lt-ltb _ _ h)) (sets-of (oldY oam address))) (sets-of (newY oam address value)))
+
+pub writes-as-before : WritesAsBefore
+writes-as-before oam sets tall address value r oam′ sets′ c w whole t =
+    by-test (λ (o : List ℕ). oam′ ≡ o) (ltb (address % 256) oamBytes)
+    (λ e.
+    let done : r ≡ 0 = c .number ∙ true-are-taken oam sets tall address value w whole t (ltb-true _ _ e) in
+    left-done (c .number) _ _ (c .written) done)
+    (λ e.
+    left-refused (c .number) _ _ (c .written)
+    (λ z. clash (lt-ltb _ _ (writes oam sets tall address value (sym (c .number) ∙ z) .inside)) e))
 
 pub others-stay : OthersStay
 others-stay oam sets tall address value r oam′ sets′ c line h a b =

@@ -1,10 +1,12 @@
 -- What each call answers, and what it leaves of the lent memory.
-use Prim.Native.Nat.{ℕ}
+use Prim.Native.Nat.{ℕ, _%_}
 use mathlib.Core.Path.{_≡_}
 use mathlib.Core.Bool.{cond}
 use mathlib.Core.List.{List}
+use lib.Dec.{ltb}
 use lib.ListN.{length, getD}
 use Rattle.refusals.specs.Ladder.{done}
+use Rattle.hardware.specs.Tables.{oamBytes}
 use Rattle.sprite.specs.Pick.{blankSlots, nothingPicked}
 use Rattle.sprite.specs.declared.Picked.{Picked}
 use Rattle.memory.specs.Writes.{oamWritten}
@@ -19,6 +21,10 @@ use Rattle.line_sets.specs.Numbers.{buildNumber, lineNumber, pickNumber,
 pub record Build (oam sets : List ℕ) (tall r : ℕ) (sets′ : List ℕ) : Type 0 where
   pub number : r ≡ buildNumber oam sets tall
   pub built : sets′ ≡ cond (done (buildNumber oam sets tall)) (built oam tall) sets
+
+-- OAM after a write without sets: written where the address is in OAM, and else as it was
+abbrev pub oamAfter : List ℕ → ℕ → ℕ → List ℕ
+oamAfter oam address value = cond (ltb (address % 256) oamBytes) (oamWritten oam address value) oam
 
 -- an OAM write through the sets: OAM as the write without them leaves it, and the sets as the entry that moves does; refused,
 -- both stay

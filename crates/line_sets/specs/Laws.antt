@@ -9,13 +9,13 @@ use lib.ListN.{length, getD}
 use Rattle.hardware.specs.Screen.{height}
 use Rattle.hardware.specs.Tables.{oamBytes}
 use Rattle.sprite.specs.Oam.{inRange}
-use Rattle.sprite.specs.Pick.{upTo, those, touches, pickOf}
+use Rattle.sprite.specs.Pick.{upTo, those, touches, isTall, pickOf}
 use Rattle.memory.specs.Writes.{oamWritten}
 use Rattle.oam_bug.specs.Kinds.{corrupted}
 use Rattle.line_sets.specs.Sets.{entries, firstOf}
 use Rattle.line_sets.specs.Lines.{AreOf, built, linesOf}
-use Rattle.line_sets.specs.Numbers.{isTall, oldY, newY, writeNumber}
-use Rattle.line_sets.specs.Calls.{Build, Write, countOf, firstOn, pickFrom}
+use Rattle.line_sets.specs.Numbers.{oldY, newY, writeNumber}
+use Rattle.line_sets.specs.Calls.{Build, oamAfter, Write, countOf, firstOn, pickFrom}
 
 -- the sets built afresh are OAM's, and no others are
 abbrev pub BuiltAreTrue : Type 0
@@ -41,6 +41,13 @@ abbrev pub TrueAreTaken : Type 0
 TrueAreTaken =
     (oam sets : List ℕ) (tall address value : ℕ) → AreOf oam tall sets → length oam ≡ oamBytes → isTall tall ≡ true
     → address % 256 < oamBytes → writeNumber oam sets tall address value ≡ 0
+
+-- so through true sets OAM is written as it is without them
+abbrev pub WritesAsBefore : Type 0
+WritesAsBefore =
+    (oam sets : List ℕ) (tall address value r : ℕ) (oam′ sets′ : List ℕ)
+    → Write oam sets tall address value r oam′ sets′ → AreOf oam tall sets → length oam ≡ oamBytes → isTall tall ≡ true
+    → oam′ ≡ oamAfter oam address value
 
 -- of a write to any sets, true or not: a line that neither the old nor the new entry touches keeps its set
 abbrev pub OthersStay : Type 0

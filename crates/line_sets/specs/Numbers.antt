@@ -1,7 +1,7 @@
 -- The number of each call: 1 for a slice of another length, 4 for another height, line or address, or for a number that is no
 -- set among those that the call reads or changes. No call takes a state that could be out of order.
 use Prim.Native.Nat.{ℕ, _/_, _%_}
-use mathlib.Core.Bool.{Bool, true, _&&_, _||_}
+use mathlib.Core.Bool.{Bool, true, _&&_}
 use mathlib.Core.List.{List}
 use lib.Dec.{eqb, ltb}
 use lib.ListN.{length, getD}
@@ -10,6 +10,7 @@ use Rattle.refusals.specs.Ladder.{lowest, own}
 use Rattle.hardware.specs.Screen.{height}
 use Rattle.hardware.specs.Tables.{oamBytes, oamFits}
 use Rattle.sprite.specs.Oam.{entry}
+use Rattle.sprite.specs.Pick.{isTall}
 use Rattle.memory.specs.Writes.{oamWritten}
 use Rattle.line_sets.specs.Sets.{isSet}
 use Rattle.line_sets.specs.Lines.{linesOf}
@@ -19,10 +20,6 @@ setsFit sets = eqb (length sets) height
 
 abbrev pub bothFit : List ℕ → List ℕ → Bool
 bothFit oam sets = oamFits oam && setsFit sets
-
--- sprites are eight or sixteen rows tall
-abbrev pub isTall : ℕ → Bool
-isTall tall = eqb tall 8 || eqb tall 16
 
 unfoldable pub buildNumber : List ℕ → List ℕ → ℕ → ℕ
 buildNumber oam sets tall = lowest (bothFit oam sets) true (own (isTall tall) 4)

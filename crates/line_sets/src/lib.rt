@@ -8,7 +8,7 @@ ghost use Rattle.hardware.specs.Screen.{height};
 ghost use Rattle.hardware.specs.Tables.{oamBytes};
 ghost use Rattle.line_sets.specs.Sets.{entries, isSet, members, put, firstOf, selectionFrom};
 ghost use Rattle.line_sets.specs.Lines.{rowLine, putLines, moved, built};
-ghost use Rattle.line_sets.specs.Numbers.{bothFit, isTall, buildNumber, isAsked, lineNumber, pickNumber};
+ghost use Rattle.line_sets.specs.Numbers.{bothFit, buildNumber, isAsked, lineNumber, pickNumber};
 ghost use Rattle.line_sets.specs.Numbers.{oldY, newY, areSets, isWritable, writeNumber};
 ghost use Rattle.line_sets.specs.Calls.{Build, Write, countOf, firstOn, pickFrom};
 use hardware::Machine;
@@ -98,16 +98,6 @@ fn move_entry(sets: &mut [u64], i: u8, tall: u8, old: u8, new: u8)
     put_lines(sets, i, true, new, tall);
 }
 
-// Whether sprites can be so tall.
-fn is_tall(tall: u8) -> bool
-    ensures { λ r. ⌜ r ≡ isTall tall ⌝ }
-{
-    if tall == 8 {
-        return true;
-    }
-    tall == 16
-}
-
 // Whether both slices have their length.
 fn are_sized(oam: &[u8], sets: &[u64]) -> bool
     ensures { λ r. ⌜ r ≡ bothFit (now (oam .entry)) (now (sets .entry)) ⌝ }
@@ -122,7 +112,7 @@ fn are_sized(oam: &[u8], sets: &[u64]) -> bool
 fn build_number(oam: &[u8], sets: &[u64], tall: u8) -> u8
     ensures { λ r. ⌜ r ≡ buildNumber (now (oam .entry)) (now (sets .entry)) tall ⌝ }
 {
-    let own = refusals::own(is_tall(tall), 4);
+    let own = refusals::own(sprite::is_tall(tall), 4);
     refusals::lowest(are_sized(oam, sets), true, own)
 }
 
@@ -204,7 +194,7 @@ fn is_writable(oam: &[u8], sets: &[u64], tall: u8, address: u16, value: u8) -> b
     requires { ⌜ (length (now oam) ≡ oamBytes) × (length (now sets) ≡ height) ⌝ }
     ensures { λ r. ⌜ r ≡ isWritable (now (oam .entry)) (now (sets .entry)) tall address value ⌝ }
 {
-    if !is_tall(tall) {
+    if !sprite::is_tall(tall) {
         return false;
     }
     if (address % 256) as usize >= Machine::OAM_BYTES {

@@ -47,8 +47,13 @@ selection oam line tall former =
 abbrev pub blankSlots : List SelectedSprite
 blankSlots = replicate 10 (record { sprite = record { y = 0; x = 0; tile = 0; flags = 0 }; index = 0 })
 
+-- sprites are eight or sixteen rows tall
+abbrev pub isTall : ℕ → Bool
+isTall tall = eqb tall 8 || eqb tall 16
+
+-- a line is of the picture, and sprites can be so tall
 abbrev pub pickable : ℕ → ℕ → Bool
-pickable line tall = ltb line height && (eqb tall 8 || eqb tall 16)
+pickable line tall = ltb line height && isTall tall
 
 -- its number: 1 for an OAM of another length, 4 for another line or height; it takes no state that could be out of order
 unfoldable pub pickNumber : List ℕ → ℕ → ℕ → ℕ

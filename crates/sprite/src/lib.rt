@@ -5,7 +5,7 @@ ghost use lib.ListN.{length, getD, set};
 ghost use Rattle.hardware.specs.Tables.{oamBytes};
 ghost use Rattle.sprite.specs.Oam.{entry, screenY, screenX, inRange, entryBytes, movedLeft};
 ghost use Rattle.sprite.specs.Oam.{colourPalette, bankOf, greyPalette, xFlip, yFlip, behind};
-ghost use Rattle.sprite.specs.Pick.{selection, blankSlots, pickable, pickNumber, refusedPick, pickOf};
+ghost use Rattle.sprite.specs.Pick.{selection, blankSlots, isTall, pickable, pickNumber, refusedPick, pickOf};
 use hardware::Machine;
 
 // The four bytes of an entry of OAM.
@@ -194,6 +194,16 @@ fn refused(number: u8) -> Picked
     Picked { number, selection }
 }
 
+// Whether sprites can be so tall.
+pub fn is_tall(tall: u8) -> bool
+    ensures { λ r. ⌜ r ≡ isTall tall ⌝ }
+{
+    if tall == 8 {
+        return true;
+    }
+    tall == 16
+}
+
 // Whether a line is of the picture, and sprites can be so tall.
 fn is_pickable(line: u8, tall: u8) -> bool
     ensures { λ r. ⌜ r ≡ pickable line tall ⌝ }
@@ -201,10 +211,7 @@ fn is_pickable(line: u8, tall: u8) -> bool
     if line as usize >= Machine::HEIGHT {
         return false;
     }
-    if tall == 8 {
-        return true;
-    }
-    tall == 16
+    is_tall(tall)
 }
 
 // The number of a pick.

@@ -1,9 +1,13 @@
 // Reads OAM, how tall sprites are and edits of OAM from standard input, and prints which sprites touch which line after them. An
 // edit is two bytes: the low byte of an address, and a value.
-ghost use Prim.Native.Nat.{_≤_};
-ghost use lib.ListN.{length};
+ghost use mathlib.Core.Path.{_≡_};
+ghost use mathlib.Core.Bool.{true};
+ghost use Prim.Native.Nat.{_≤_, _/_};
+ghost use lib.ListN.{length, take};
 ghost use Rattle.hardware.specs.Tables.{oamBytes};
+ghost use Rattle.sprite.specs.Pick.{isTall};
 ghost use Rattle.line_sets.specs.Lines.{AreOf};
+ghost use Rattle.sprite_lists.specs.Edits.{edited};
 use hardware::Machine;
 use libc::STDIN_FILENO;
 use libc::STDOUT_FILENO;
@@ -66,14 +70,17 @@ fn print_refused(edit: usize, number: u8) -> bool {
 }
 
 // An address of OAM by its low byte.
-fn address_of(low: u8) -> u16 {
+fn address_of(low: u8) -> u16
+    ensures { λ r. ⌜ r ≡ low ⌝ }
+{
     low as u16
 }
 
-// Makes the edits in order, each through the sets: they stay OAM's.
+// Makes the edits in order, each through the sets: they stay OAM's. Whether all were made, and what was refused was printed.
 fn edit_all(oam: &mut [u8], sets: &mut [u64], tall: u8, edits: &[u8]) -> bool
-    requires { ⌜ AreOf (now oam) tall (now sets) ⌝ }
-    ensures { λ _. ⌜ AreOf (now (oam .exit)) tall (now (sets .exit)) ⌝ }
+    requires { ⌜ (length (now oam) ≡ oamBytes) × (isTall tall ≡ true) × AreOf (now oam) tall (now sets) ⌝ }
+    ensures { λ r. ⌜ AreOf (now (oam .exit)) tall (now (sets .exit))
+        × (r ≡ true → now (oam .exit) ≡ edited (now (oam .entry)) (now (edits .entry)) (length (now (edits .entry)) / 2)) ⌝ }
 {
     let mut edit = 0;
     while edit < edits.len() / 2 {
@@ -91,6 +98,7 @@ fn edit_all(oam: &mut [u8], sets: &mut [u64], tall: u8, edits: &[u8]) -> bool
 // OAM, at the head of the input.
 fn oam_of(input: &[u8]) -> [u8; Machine::OAM_BYTES]
     requires { ⌜ oamBytes ≤ length (now input) ⌝ }
+    ensures { λ r. ⌜ r ≡ take oamBytes (now (input .entry)) ⌝ }
 {
     let mut oam = [0u8; Machine::OAM_BYTES];
     for i in 0..160 {

@@ -20,7 +20,8 @@ returns c =
 put-all-requires : tie.Need-put-all-requires
 put-all-requires c κs =
     let a = c .before .before .before .before .before .before .args in
-    builds (a .oam .now) (a .sets .now) (a .tall) (sym (c .before .before .build-number .ensures) ∙ c .before .if1 .left)
+    let b = builds (a .oam .now) (a .sets .now) (a .tall) (sym (c .before .before .build-number .ensures) ∙ c .before .if1 .left) in
+    (b .0, b .1)
 
 same-length-2 : tie.Need-same-length-2
 same-length-2 c = search needs

@@ -1,5 +1,7 @@
 -- `sprite_lists::answer` is safe and ends: the sets that it edits are OAM's, by the build.
 use borrow.Author.Needs.{needs}
+use mathlib.Core.Path.{sym, _∙_}
+use Rattle.line_sets.proofs.Accepted as accepted
 use Rattle.line_sets.proofs.Laws.{builds}
 use Rattle.sprite_lists.proofs.answer.Statement.{statement}
 use Rattle.sprite_lists.proofs.answer.Tie as tie
@@ -68,7 +70,11 @@ part-edit-all-end : tie.Need-part-edit-all-end
 part-edit-all-end c = search needs
 
 edit-all-requires : tie.Need-edit-all-requires
-edit-all-requires c κs = builds _ _ _ _ _ (c .before .before .before .before .before .before .build .ensures) .0 (c .before .before .before .before .if2 .left)
+edit-all-requires c κs =
+    let b = c .before .before .before .before .before .before .build .ensures in
+    let none = c .before .before .before .before .if2 .left in
+    let a = accepted.builds _ _ _ (sym (b .number) ∙ none) in
+    (a .0, a .2, builds _ _ _ _ _ b .0 none)
 
 slice-aggregate-print-lists : tie.Need-slice-aggregate-print-lists
 slice-aggregate-print-lists c = search needs

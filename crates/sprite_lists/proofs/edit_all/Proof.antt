@@ -1,22 +1,43 @@
--- `sprite_lists::edit_all` meets its contract. The invariant: the sets are OAM's.
-use mathlib.Core.Path.{_≡_, refl}
-use Prim.Native.Nat.{_/_, _≤_, _-_}
+-- `sprite_lists::edit_all` meets its contract. The invariant: OAM is as the edits so far leave it, and the sets are OAM's.
+use mathlib.Core.Path.{_≡_, refl, sym, _∙_}
+use mathlib.Core.List.{List}
+use Prim.Native.Nat.{ℕ, _+_, _*_, _/_, _≤_, _-_}
+use native.Mathlib.Numerals.{add-one}
 use native.Mathlib.Omega.{arith}
-use lib.ListN.{length}
+use lib.ListN.{length, getD}
+use Rattle.hardware.specs.Tables.{oamBytes}
+use Rattle.logic.proofs.Tests.{clash}
 use Rattle.line_sets.specs.Lines.{AreOf}
-use Rattle.line_sets.proofs.Laws.{keeps-true}
+use Rattle.line_sets.specs.Calls.{oamAfter}
+use Rattle.line_sets.proofs.Laws.{keeps-true, writes-as-before}
+use Rattle.sprite_lists.specs.Edits.{edited}
 use Rattle.sprite_lists.proofs.edit_all.Statement.{statement}
 use Rattle.sprite_lists.proofs.edit_all.Tie as tie
 
 abbrev Inv-loop : tie.InvT-loop
 Inv-loop oam₀ sets₀ tall edits edit₀ oam sets edit =
     (edit ≤ length edits / 2) × (length oam ≡ length oam₀) × (length sets ≡ length sets₀) × AreOf oam tall sets
+    × (oam ≡ edited oam₀ edits edit)
 
 abbrev μ-loop : tie.MeasureT-loop
 μ-loop oam₀ sets₀ tall edits edit₀ oam sets edit = length edits / 2 - edit
 
+-- OAM before any edit, and after one more
+edited-none : (oam edits : List ℕ) → oam ≡ edited oam edits 0
+unfolding edited
+edited-none oam edits = refl
+
+edited-next : (oam edits : List ℕ) (n : ℕ)
+    → edited oam edits (n + 1) ≡ oamAfter (edited oam edits n) (getD edits (2 * n) 0) (getD edits (2 * n + 1) 0)
+unfolding edited
+edited-next oam edits n = rw (add-one n) refl
+
+next : (oam₀ edits : List ℕ) (n address : ℕ) (oam oam′ : List ℕ) → oam ≡ edited oam₀ edits n → address ≡ getD edits (2 * n) 0
+    → oam′ ≡ oamAfter oam address (getD edits (2 * n + 1) 0) → oam′ ≡ edited oam₀ edits (n + 1)
+next oam₀ edits n address oam oam′ o a e = e ∙ rw (o, a) (sym (edited-next oam₀ edits n))
+
 loop-holds : tie.Need-loop-holds Inv-loop μ-loop
-loop-holds c = (omega arith, refl, refl, c .before .before .before .pre)
+loop-holds c = (omega arith, refl, refl, c .before .before .before .pre .2, edited-none _ _)
 
 mul-address-of : tie.Need-mul-address-of Inv-loop μ-loop
 mul-address-of c = omega arith
@@ -51,7 +72,7 @@ same-length-2 c = omega arith
 returns : tie.Need-returns Inv-loop μ-loop
 returns c =
     let l = c .before .before .before .before .before .before .before .before .before .before .before .before .before .before in
-    keeps-true _ _ _ _ _ _ _ _ (c .before .before .before .before .before .before .before .write-oam .ensures) (l .loop .inv .3) .0
+    (keeps-true _ _ _ _ _ _ _ _ (c .before .before .before .before .before .before .before .write-oam .ensures) (l .loop .inv .3) .0, λ e. absurd (clash e refl))
 
 add-edit : tie.Need-add-edit Inv-loop μ-loop
 add-edit c = omega arith
@@ -62,7 +83,16 @@ loop-less c = omega arith
 loop-again : tie.Need-loop-again Inv-loop μ-loop
 loop-again c =
     let l = c .before .before .before .before .before .before .before .before .before .before .before .before in
-    (omega arith, omega arith, omega arith, keeps-true _ _ _ _ _ _ _ _ (c .before .before .before .before .before .write-oam .ensures) (l .loop .inv .3) .0)
+    let w = c .before .before .before .before .before .write-oam .ensures in
+    let p = l .before .before .before .before .pre in
+    let whole : length (l .loop .oam) ≡ oamBytes = l .loop .inv .1 ∙ p .0 in (
+      omega arith,
+      omega arith,
+      omega arith,
+      keeps-true _ _ _ _ _ _ _ _ w (l .loop .inv .3) .0,
+      next _ _ _ _ _ _ (l .loop .inv .4) (c .before .before .before .before .before .before .before .before .before .address-of .ensures)
+          (writes-as-before _ _ _ _ _ _ _ _ w (l .loop .inv .3) whole (p .1)),
+    )
 
 same-length-3 : tie.Need-same-length-3 Inv-loop μ-loop
 same-length-3 c = omega arith
@@ -71,7 +101,10 @@ same-length-4 : tie.Need-same-length-4 Inv-loop μ-loop
 same-length-4 c = omega arith
 
 returns-2 : tie.Need-returns-2 Inv-loop μ-loop
-returns-2 c = c .before .loop .inv .3
+returns-2 c =
+    let l = c .before .loop in
+    let full : l .edit ≡ length (c .before .before .before .before .before .args .edits .now) / 2 = omega arith in
+    (l .inv .3, λ e. rw full at (l .inv .4))
 
 pub edit-all-spec : {M : Type 1} → statement M
 edit-all-spec =

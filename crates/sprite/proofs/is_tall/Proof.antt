@@ -1,7 +1,7 @@
--- `line_sets::is_tall` meets its contract.
+-- `sprite::is_tall` meets its contract.
 use borrow.Author.Tests.{eq-eqb, ne-eqb}
-use Rattle.line_sets.proofs.is_tall.Statement.{statement}
-use Rattle.line_sets.proofs.is_tall.Tie as tie
+use Rattle.sprite.proofs.is_tall.Statement.{statement}
+use Rattle.sprite.proofs.is_tall.Tie as tie
 
 returns : tie.Need-returns
 returns c = rw (eq-eqb _ _ (c .if1 .taken))

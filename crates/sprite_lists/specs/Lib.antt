@@ -1,0 +1,2 @@
+-- What the contracts of `sprite_lists` cite.
+pub mod Edits
