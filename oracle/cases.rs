@@ -3,6 +3,7 @@
 use crate::leaves::Leaves;
 use crate::list::{request, List};
 use crate::machine::{corrupt, CORRUPTIONS};
+use crate::machine::{LOCKED_OAM_READ, LOCKED_OAM_WRITE, LOCKED_VRAM_READ, LOCKED_VRAM_WRITE};
 use crate::machine_lists::Run;
 use crate::memory::{InterruptManager, InterruptType};
 use crate::ppu::parts::LCD_WIDTH;
@@ -1132,6 +1133,135 @@ fn pan_docs_cases(run: &mut Named) {
     ));
 }
 
+/// Whether OAM is closed, here by a locked read and in the published crate by its own read, of the byte 12 at FE00.
+fn oam_locks(run: &mut Run) -> String {
+    let told = |byte: u8| match byte {
+        0x12 => "open",
+        0xFF => "closed",
+        _ => "neither",
+    };
+    let here = run.locked(LOCKED_OAM_READ, 0xFE00, 0)[1];
+    format!("{} {}", told(here), told(run.machine.ppu.read_oam(0xFE00)))
+}
+
+/// The same now and after each of some steps.
+fn oam_locks_by(run: &mut Run, count: u32, cycles: u8) -> String {
+    let mut found = vec![oam_locks(run)];
+    for _ in 0..count {
+        run.step(cycles);
+        found.push(oam_locks(run));
+    }
+    found.join(", ")
+}
+
+/// Request 12: the locked calls, and where the given text's lock of OAM parts from the lock by STAT.
+fn lock_cases(run: &mut Named) {
+    // Line 0 at cycles 4, 84 and 364, line 144, and there switched off: a write and a read of each memory.
+    run.call(&[1, 1, 0]);
+    let mut found = Vec::new();
+    for (value, before) in [(1, TO_LINE_0 + 1), (2, 20), (3, 70), (4, 144 * 114), (5, 0)] {
+        steps(run, before);
+        if value == 5 {
+            run.register(0x40, ON & 0x7F);
+        }
+        run.locked(LOCKED_VRAM_WRITE, 0x8000, value);
+        run.locked(LOCKED_OAM_WRITE, 0xFE00, value);
+        let vram = run.locked(LOCKED_VRAM_READ, 0x8000, 0)[1];
+        let oam = run.locked(LOCKED_OAM_READ, 0xFE00, 0)[1];
+        found.push(format!("{:02X} {:02X}", vram, oam));
+    }
+    run.end(case(
+        "locks, writes of 1 to 5 in modes 2, 3, 0, 1 and off: VRAM and OAM read",
+        "01 FF, FF FF, 03 03, 04 04, 05 05",
+        found.join(", "),
+    ));
+    let numbers = [LOCKED_OAM_WRITE, LOCKED_OAM_READ].map(|op| run.locked(op, 0xFEA0, 0)[0]);
+    run.end(case("locks, OAM at FEA0: numbers", "[4, 4]", format!("{:?}", numbers)));
+
+    // Mode 3 of line 0 ends in the step at cycle 254, or at 252 in steps of 4.
+    run.call(&[1, 1, 0]);
+    run.oam(0, 0x12);
+    steps(run, TO_LINE_0 + 20);
+    for _ in 0..87 {
+        run.step(2);
+    }
+    let found = oam_locks_by(run, 4, 2);
+    run.end(case(
+        "locks, OAM at cycles 254 to 262 of line 0, steps of 2: here, published",
+        "closed closed, open closed, open closed, open closed, open open",
+        found,
+    ));
+    run.call(&[1, 1, 0]);
+    run.oam(0, 0x12);
+    steps(run, TO_LINE_0 + 63);
+    let found = oam_locks_by(run, 2, 4);
+    run.end(case(
+        "locks, OAM at cycles 252, 256, 260 of line 0: here, published",
+        "closed closed, open closed, open open",
+        found,
+    ));
+    steps(run, 49);
+    let found = oam_locks_by(run, 1, 4);
+    run.end(case(
+        "locks, OAM on line 1 at cycles 0 and 4: here, published",
+        "open closed, closed closed",
+        found,
+    ));
+    steps(run, 143 * 114 - 1);
+    let found = oam_locks_by(run, 3, 2);
+    run.end(case(
+        "locks, OAM on line 144 at cycles 0, 2, 4, 6: here, published",
+        "open closed, open closed, open closed, open open",
+        found,
+    ));
+
+    // Off in mode 0 behind mode 3, on again, and into mode 3 of line 0; off there, where the end of before is still kept.
+    run.call(&[1, 1, 0]);
+    run.oam(0, 0x12);
+    steps(run, TO_LINE_0 + 70);
+    let before = oam_locks(run);
+    run.register(0x40, ON & 0x7F);
+    let off = oam_locks_by(run, 1, 4);
+    run.register(0x40, ON);
+    let on = oam_locks(run);
+    steps(run, 19);
+    let last = oam_locks_by(run, 1, 4);
+    run.register(0x40, ON & 0x7F);
+    let again = oam_locks(run);
+    run.end(case(
+        "locks, OAM at cycle 280; off, off after a step; on at cycles 4, 80, 84 of line 0; off: here, published",
+        "open open; open closed, open closed; open closed, open closed, closed closed; open closed",
+        format!("{}; {}; {}, {}; {}", before, off, on, last, again),
+    ));
+    run.call(&[1, 1, 0]);
+    run.oam(0, 0x12);
+    steps(run, TO_LINE_0 + 2);
+    run.register(0x40, ON & 0x7F);
+    let scanned = oam_locks(run);
+    run.register(0x40, ON);
+    steps(run, 30);
+    run.register(0x40, ON & 0x7F);
+    let drawn = oam_locks(run);
+    run.end(case(
+        "locks, OAM off behind modes 2 and 3 of a first line: here, published",
+        "open open, open open",
+        format!("{}, {}", scanned, drawn),
+    ));
+
+    // Mode 3: the published crate has no lock of VRAM.
+    run.call(&[1, 1, 0]);
+    run.vram(0x8000, 0x12);
+    steps(run, TO_LINE_0 + 21);
+    run.locked(LOCKED_VRAM_WRITE, 0x8000, 0x34);
+    let byte = run.locked(LOCKED_VRAM_READ, 0x8000, 0)[1];
+    let kept = run.machine.ppu.look_vram()[0];
+    run.end(case(
+        "locks, VRAM in mode 3: byte read, byte kept; published: byte read",
+        "FF 12; 12",
+        format!("{:02X} {:02X}; {:02X}", byte, kept, run.machine.ppu.read_vram(0x8000)),
+    ));
+}
+
 /// P1 to P6, P8, P10 and the picks of the example, by the protocol `leaves`. What a request leaves behind is read back by
 /// requests that follow it: the slots of a pick, the palette port and its last colour.
 fn leaf_cases(out: &mut dyn Write) -> io::Result<Vec<Case>> {
@@ -1219,6 +1349,7 @@ fn all(out: &mut dyn Write) -> io::Result<Vec<Case>> {
     unseen_cases(&mut named);
     published_cases(&mut named);
     pan_docs_cases(&mut named);
+    lock_cases(&mut named);
     let cases = named.cases;
     run.finish()?;
     Ok(cases)

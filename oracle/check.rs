@@ -2,13 +2,14 @@
 
 use crate::list::spaced;
 use crate::machine::{place_of, Machine, CALLS, CORRUPTIONS, MARKS};
+use crate::machine::{LOCKED_OAM_READ, LOCKED_OAM_WRITE, LOCKED_VRAM_READ, LOCKED_VRAM_WRITE};
 use crate::missing::{there, Missing};
 use crate::sweep_check::Sweep;
 use std::collections::BTreeSet;
 use std::io::{self, Write};
 
 /// The kinds of lists; the first demands nothing but calls, and states in order.
-pub const KINDS: [&str; 7] = ["", "random", "sweep", "cases", "sample", "writes", "unknown"];
+pub const KINDS: [&str; 8] = ["", "random", "sweep", "cases", "sample", "writes", "locks", "unknown"];
 
 /// The registers that can be written (FF..), and those that can be read.
 const WRITABLE: [u8; 16] = [
@@ -17,13 +18,31 @@ const WRITABLE: [u8; 16] = [
 const READABLE: [u8; 4] = [0x68, 0x69, 0x6A, 0x6B];
 
 /// The ops that can be refused, with the number.
-const REFUSALS: [(u8, u8); 7] = [(2, 3), (3, 4), (4, 4), (6, 4), (8, 4), (8, 5), (PICK, 4)];
+const REFUSALS: [(u8, u8); 9] = [
+    (2, 3),
+    (3, 4),
+    (4, 4),
+    (6, 4),
+    (8, 4),
+    (8, 5),
+    (PICK, 4),
+    (LOCKED_OAM_WRITE, 4),
+    (LOCKED_OAM_READ, 4),
+];
 const PICK: u8 = 13;
+/// The locked calls, and when each can come.
+const LOCKED: [u8; 4] = [LOCKED_VRAM_WRITE, LOCKED_VRAM_READ, LOCKED_OAM_WRITE, LOCKED_OAM_READ];
+const MOMENTS: [&str; 5] = ["in mode 0", "in mode 1", "in mode 2", "in mode 3", "with the display off"];
 /// The digests of pictures and memory, and of the state.
 const DIGESTS: [u8; 2] = [11, 12];
 
 fn name_of(op: u8) -> &'static str {
     place_of(op).map_or("unknown op", |k| CALLS[k].1)
+}
+
+/// The byte of VRAM that a request is about, by its address in a bank.
+fn byte_of(bank: usize, request: [u8; 8]) -> usize {
+    0x2000 * bank + u16::from_le_bytes([request[1], request[2]]) as usize % 0x2000
 }
 
 /// Counts over a list of calls, and the rule that every state is in order.
@@ -59,6 +78,12 @@ pub struct Check {
     vram: BTreeSet<usize>,
     oam: BTreeSet<u8>,
     values: BTreeSet<(u8, u8)>,
+    /// Accepted locked calls by their place in `LOCKED` and in `MOMENTS`; where each came: the bytes of VRAM, the first bank first,
+    /// and the OAM addresses by their low byte, accepted or not.
+    locked: [[u64; MOMENTS.len()]; LOCKED.len()],
+    /// The same by whether the memory was open or closed.
+    shut: [[u64; 2]; LOCKED.len()],
+    locked_at: [BTreeSet<usize>; LOCKED.len()],
     /// Accepted picks of height 8 and of 16.
     picks: [u64; 2],
     largest_count: u16,
@@ -82,6 +107,8 @@ impl Check {
         let was_in_window = ppu.look_in_window();
         let (line, cycle, x) = (ppu.look_line(), ppu.look_cycle(), ppu.look_lcd().x());
         let bank = ppu.read_vram_bank() as usize & 1;
+        let moment = if was_on { ppu.get_current_mode() as usize } else { 4 };
+        let closed = [self.machine.vram_closed(), self.machine.oam_closed()];
         let answer = self.machine.answer(request);
         let op = request[0];
 
@@ -119,6 +146,12 @@ impl Check {
         }
         if op == 8 {
             self.kinds.insert(request[1]);
+        }
+        if let Some(k) = LOCKED.iter().position(|&known| known == op) {
+            self.locked[k][moment] += (answer[0] == 0) as u64;
+            self.shut[k][closed[k / 2] as usize] += (answer[0] == 0) as u64;
+            let low = request[1] as usize;
+            self.locked_at[k].insert(if k < 2 { byte_of(bank, request) } else { low });
         }
         if op == 1 && self.calls > 1 {
             self.undigested += (self.last != [12, 11]) as u64;
@@ -170,7 +203,7 @@ impl Check {
             4 => self.read[READABLE.iter().position(|&low| low == a).expect("a register")] += 1,
             5 => {
                 self.banks[bank] += 1;
-                self.vram.insert(0x2000 * bank + u16::from_le_bytes([a, b]) as usize % 0x2000);
+                self.vram.insert(byte_of(bank, request));
             }
             7 => self.flags[(a != 0) as usize] += 1,
             8 => self.corrupted[a as usize] += 1,
@@ -240,6 +273,7 @@ impl Check {
             "cases" => self.cases(&mut missing, out)?,
             "sample" => self.sample(&mut missing, out)?,
             "writes" => self.writes(&mut missing, out)?,
+            "locks" => self.every_lock(&mut missing, out)?,
             "unknown" => self.unknowns(&mut missing, out)?,
             _ => {}
         }
@@ -274,11 +308,16 @@ impl Check {
         missing.want_all(&self.corrupted, |k| format!("corruption by a {}", CORRUPTIONS[k]));
     }
 
-    /// Every refusal by the ops asked for, by 5 of each kind of corruption.
-    fn refusals(&self, missing: &mut Missing, asked: impl Fn(u8) -> bool) {
+    /// Every refusal by the ops asked for.
+    fn refusals_of(&self, missing: &mut Missing, asked: impl Fn(u8) -> bool) {
         for (&(op, number), &times) in REFUSALS.iter().zip(&self.refused) {
             missing.want(times > 0 || !asked(op), format!("{} refused by {}", name_of(op), number));
         }
+    }
+
+    /// The same, and by 5 of each kind of corruption.
+    fn refusals(&self, missing: &mut Missing, asked: impl Fn(u8) -> bool) {
+        self.refusals_of(missing, asked);
         missing.want_all(&self.untimely, |k| format!("corruption by a {} refused by 5", CORRUPTIONS[k]));
     }
 
@@ -300,6 +339,9 @@ impl Check {
         missing.want(self.window_entries > 0, "a window entry");
         missing.want_all(&self.banks, |k| format!("a VRAM write in bank {}", k));
         missing.want_all(&self.picks, |k| format!("a pick of height {}", 8 + 8 * k));
+        for (op, shut) in LOCKED.iter().zip(&self.shut) {
+            missing.want_all(shut, |k| format!("a {} while {}", name_of(*op), ["open", "closed"][k]));
+        }
         writeln!(
             out,
             "random: {} of {} calls, refusals 3 ({}) 4 ({}) 5 ({}), unknown ({}), {} of {} by call, {} of 16 registers written, {} of 4 read",
@@ -387,6 +429,28 @@ impl Check {
             spaced(self.values.len() as u64),
             there(&self.starts),
             self.kinds.len()
+        )
+    }
+
+    fn every_lock(&self, missing: &mut Missing, out: &mut dyn Write) -> io::Result<()> {
+        for (k, &op) in LOCKED.iter().enumerate() {
+            missing.want_all(&self.locked[k], |at| format!("a {} {}", name_of(op), MOMENTS[at]));
+            let all = if k < 2 { 0x4000 } else { 256 };
+            missing.want(self.locked_at[k].len() == all, format!("an address of a {}", name_of(op)));
+        }
+        self.refusals_of(missing, |op| LOCKED.contains(&op));
+        self.digests(missing);
+        let accepted: Vec<u64> = (0..MOMENTS.len()).map(|k| self.locked.iter().map(|moments| moments[k]).sum()).collect();
+        writeln!(
+            out,
+            "locks: {} bytes of VRAM written and {} read, {} OAM addresses written and {} read, of 16,384 and 256; accepted {:?} in modes \
+             0 to 3 and with the display off, refused by 4 {}",
+            spaced(self.locked_at[0].len() as u64),
+            spaced(self.locked_at[1].len() as u64),
+            self.locked_at[2].len(),
+            self.locked_at[3].len(),
+            accepted,
+            self.refusals_by(4)
         )
     }
 

@@ -13,7 +13,7 @@ pub const REFUSED_ARGUMENT: u8 = 4;
 pub const REFUSED_CORRUPTION: u8 = 5;
 
 /// The calls by their ops. 9 and 10 are none.
-pub const CALLS: [(u8, &str); 13] = [
+pub const CALLS: [(u8, &str); 17] = [
     (1, "start"),
     (2, "step"),
     (3, "register write"),
@@ -27,7 +27,19 @@ pub const CALLS: [(u8, &str); 13] = [
     (13, "pick"),
     (14, "slot"),
     (15, "look"),
+    (LOCKED_VRAM_WRITE, "locked VRAM write"),
+    (LOCKED_VRAM_READ, "locked VRAM read"),
+    (LOCKED_OAM_WRITE, "locked OAM write"),
+    (LOCKED_OAM_READ, "locked OAM read"),
 ];
+
+pub const LOCKED_VRAM_WRITE: u8 = 16;
+pub const LOCKED_VRAM_READ: u8 = 17;
+pub const LOCKED_OAM_WRITE: u8 = 18;
+pub const LOCKED_OAM_READ: u8 = 19;
+
+/// What a read of a closed memory gives.
+const CLOSED_BYTE: u8 = 0xFF;
 
 /// The place of an op in `CALLS`.
 pub fn place_of(op: u8) -> Option<usize> {
@@ -155,9 +167,36 @@ impl Machine {
                     end[1],
                 ]);
             }
+            LOCKED_VRAM_WRITE => {
+                if !self.vram_closed() {
+                    self.ppu.write_vram(word, a[2]);
+                }
+            }
+            LOCKED_VRAM_READ => answer[1] = if self.vram_closed() { CLOSED_BYTE } else { self.ppu.read_vram(word) },
+            LOCKED_OAM_WRITE | LOCKED_OAM_READ if a[0] >= 160 => answer[0] = REFUSED_ARGUMENT,
+            LOCKED_OAM_WRITE => {
+                if !self.oam_closed() {
+                    self.ppu.write_oam_no_lock(word, a[2]);
+                }
+            }
+            LOCKED_OAM_READ => answer[1] = if self.oam_closed() { CLOSED_BYTE } else { self.ppu.look_oam()[a[0] as usize] },
             _ => answer[0] = 255,
         }
         answer
+    }
+
+    /// Whether a locked call finds its memory closed, by Pan Docs: the display is on, in a mode that uses it. The given text
+    /// has no such test of VRAM, and another one of OAM (`is_oam_locked`).
+    pub fn vram_closed(&self) -> bool {
+        self.drawing_in(&[3])
+    }
+
+    pub fn oam_closed(&self) -> bool {
+        self.drawing_in(&[2, 3])
+    }
+
+    fn drawing_in(&self, modes: &[u8]) -> bool {
+        self.ppu.read_lcd_control() & 0x80 != 0 && modes.contains(&self.ppu.get_current_mode())
     }
 
     fn step(&mut self, cycles: u8, answer: &mut [u8; 16]) {

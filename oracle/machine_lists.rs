@@ -4,6 +4,7 @@
 use crate::cases;
 use crate::list::{request, List, Random};
 use crate::machine::{place_of, Machine, CORRUPTIONS};
+use crate::machine::{LOCKED_OAM_READ, LOCKED_OAM_WRITE, LOCKED_VRAM_READ, LOCKED_VRAM_WRITE};
 use std::io::{self, Write};
 
 /// A line and a frame in steps of 4.
@@ -107,6 +108,12 @@ impl<'a> Run<'a> {
         self.call(&[6, address, 0xFE, value]);
     }
 
+    /// A locked call at an address: its answer. The value is that of a write, and 0 for a read.
+    pub fn locked(&mut self, op: u8, address: u16, value: u8) -> [u8; 16] {
+        let address = address.to_le_bytes();
+        self.call(&[op, address[0], address[1], value])
+    }
+
     pub fn step(&mut self, cycles: u8) -> [u8; 16] {
         self.call(&[2, cycles])
     }
@@ -120,6 +127,18 @@ impl<'a> Run<'a> {
     fn random_bug(&mut self) {
         let kind = if self.random.once_in(8) { self.random.byte() } else { self.random.below(3) as u8 };
         self.oam_bug(kind);
+    }
+
+    /// A random locked call, of OAM now and then at an address that it has not.
+    fn random_locked(&mut self) {
+        let (a, b, value) = (self.random.byte(), self.random.byte(), self.random.byte());
+        let low = if self.random.once_in(8) { a } else { a % 160 };
+        match self.random.below(4) {
+            0 => self.locked(LOCKED_VRAM_WRITE, u16::from_le_bytes([a, b]), value),
+            1 => self.locked(LOCKED_VRAM_READ, u16::from_le_bytes([a, b]), 0),
+            2 => self.locked(LOCKED_OAM_WRITE, u16::from_le_bytes([low, b]), value),
+            _ => self.locked(LOCKED_OAM_READ, u16::from_le_bytes([low, b]), 0),
+        };
     }
 
     /// The digests of the state and of what is stored, unless they were the last two calls.
@@ -265,7 +284,7 @@ impl<'a> Run<'a> {
 
     fn poke(&mut self) {
         let (a, b, c) = (self.random.byte(), self.random.byte(), self.random.byte());
-        match self.random.below(40) {
+        match self.random.below(44) {
             0..=18 => self.poke_register(),
             19..=22 => self.vram(0x8000 | u16::from_le_bytes([a, b & 0x1F]), c),
             23..=25 => self.vram(0x9800 | u16::from_le_bytes([a, b & 7]), c),
@@ -293,6 +312,7 @@ impl<'a> Run<'a> {
                 let high = self.random.of(&[0xFF, 0xFF, 0xFE, 0x00]);
                 self.call(&[3, low, high, c]);
             }
+            39..=42 => self.random_locked(),
             _ => match self.random.below(6) {
                 0..=2 => self.pick(),
                 3..=4 => {
@@ -722,6 +742,25 @@ pub fn writes(out: &mut dyn Write) -> io::Result<()> {
     run.finish()
 }
 
+/// The locked calls: at every byte of VRAM in both banks and every OAM address while the display is off; then at every OAM address and
+/// some bytes of VRAM in modes 2, 3, 0 and 1.
+pub fn locks(out: &mut dyn Write) -> io::Result<()> {
+    let mut run = Run::new(out, u64::MAX, 6, 0);
+    run.call(&[1, 0, 1]);
+    run.register(0x40, 0x11);
+    run.lock_everywhere(1);
+    // Line 1 at cycles 4, 124 and 364, then line 144.
+    run.register(0x40, 0x91);
+    for steps in [LINE, 30, 60, 143 * LINE] {
+        for _ in 0..steps {
+            run.step(4);
+        }
+        run.call(&[15]);
+        run.lock_everywhere(61);
+    }
+    run.finish()
+}
+
 /// Every op that is none and every slot over 9, in mode 3 of a line with sprites. Between them stand the digests, the slots
 /// of the last pick and accepted calls.
 pub fn unknown(out: &mut dyn Write) -> io::Result<()> {
@@ -791,6 +830,33 @@ fn meaningful(op: u8) -> [u8; 8] {
 }
 
 impl<'a> Run<'a> {
+    /// Locked writes and reads at every `apart`-th byte of both banks of VRAM, and at every OAM address; other bytes for another
+    /// `apart`.
+    fn lock_everywhere(&mut self, apart: usize) {
+        for bank in 0..2u16 {
+            self.register(0x4F, bank as u8);
+            // The address by turns in every 8 KiB.
+            let offsets = || (0..0x2000u16).step_by(apart).map(|offset| (offset, 0x2000 * (offset % 8) + offset));
+            for (offset, address) in offsets() {
+                let byte = (offset ^ offset >> 7 ^ 77 * bank) as u8;
+                self.locked(LOCKED_VRAM_WRITE, address, byte.wrapping_add(apart as u8));
+            }
+            self.call(&[11]);
+            for (_, address) in offsets() {
+                self.locked(LOCKED_VRAM_READ, address, 0);
+            }
+        }
+        let address = |low: u8| u16::from_le_bytes([low, low ^ 0xFE]);
+        for low in 0..=255 {
+            self.locked(LOCKED_OAM_WRITE, address(low), (low ^ 0xA5).wrapping_add(apart as u8));
+        }
+        self.digests();
+        for low in 0..=255 {
+            self.locked(LOCKED_OAM_READ, address(low), 0);
+        }
+        self.digests();
+    }
+
     /// The slots of the last pick and the digests.
     fn nothing_changed(&mut self) {
         for k in 0..10 {

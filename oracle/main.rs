@@ -38,11 +38,12 @@ const USAGE: &str = "usage: oracle COMMAND
   machine-cases             the named cases as text, checked; ends with 1 if a figure differs
   machine-cases-list        the calls of the named cases
   machine-writes            every address of VRAM, OAM and registers, every value of a register
+  machine-locks             locked calls at every address of VRAM and OAM, in every mode
   machine-unknown           every unknown op, and every slot over 9
   torn-picture              the picture of the named case of that name, as a PPM file
   machine-check [KIND]      counts over the requests on standard input; ends with 1 if a state is
                             not in order, or if one is missing that a list of that KIND (random,
-                            sweep, cases, sample, writes, unknown) must hold
+                            sweep, cases, sample, writes, locks, unknown) must hold
   sprite-lists              the answer to the input of the program sprite_lists on standard input
   sprite-lists-random SEED COUNT
                             a random input of it with COUNT edits
@@ -159,6 +160,7 @@ fn run(words: &[String]) -> io::Result<i32> {
         "machine-cases" => return cases::print(&mut output()),
         "machine-cases-list" => cases::list(&mut output())?,
         "machine-writes" => machine_lists::writes(&mut output())?,
+        "machine-locks" => machine_lists::locks(&mut output())?,
         "machine-unknown" => machine_lists::unknown(&mut output())?,
         "torn-picture" => cases::torn_picture(&mut output())?,
         "machine-check" if check::KINDS.contains(&kind) => {

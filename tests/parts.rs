@@ -13,6 +13,8 @@ mod fifo;
 mod lcd;
 #[path = "harness/line_sets.rs"]
 mod line_sets;
+#[path = "harness/locks.rs"]
+mod locks;
 #[path = "harness/memory.rs"]
 mod memory;
 #[path = "harness/oam_bug.rs"]
@@ -64,6 +66,8 @@ const PARTS: &[(&str, Part)] = &[
     ("memory, start", memory::start),
     ("memory, VRAM", memory::vram),
     ("memory, OAM", memory::oam),
+    ("locks, calls", locks::calls),
+    ("locks, the given test", locks::given),
     ("pixel, mixer", pixel::mixer),
     ("pixel, sprites", pixel::sprites),
     ("pipe, window", pipe::window),
@@ -86,7 +90,7 @@ const PARTS: &[(&str, Part)] = &[
 ];
 
 /// The cases of all parts at their own sizes, seed 1: a part that lost some is seen.
-const ALL: u64 = 28_726_155;
+const ALL: u64 = 33_148_927;
 
 fn main() {
     let words: Vec<String> = std::env::args().skip(1).collect();

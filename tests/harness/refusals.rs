@@ -25,12 +25,16 @@ enum Call {
     OamBug(u8),
     Pick(u8, u8),
     Screen,
+    LockedWriteVram(u16, u8),
+    LockedReadVram(u16),
+    LockedWriteOam(u16, u8),
+    LockedReadOam(u16),
 }
 
 use Call::*;
 
 /// Every call once, with arguments that nothing refuses.
-const ALL: [Call; 12] = [
+const ALL: [Call; 16] = [
     Start(false, true),
     Step(2),
     WriteRegister(0xFF43, 7),
@@ -43,6 +47,10 @@ const ALL: [Call; 12] = [
     OamBug(2),
     Pick(143, 16),
     Screen,
+    LockedWriteVram(0x9801, 5),
+    LockedReadVram(0x9801),
+    LockedWriteOam(0xFE9F, 6),
+    LockedReadOam(0xFE9F),
 ];
 
 /// What a call lends: VRAM, OAM, picture A, picture B.
@@ -50,8 +58,10 @@ fn lends(call: Call) -> [bool; 4] {
     match call {
         Start(..) | Step(_) => [true; 4],
         WriteRegister(..) | Screen => [false, false, true, true],
-        WriteVram(..) => [true, false, false, false],
-        WriteOam(..) | OamBug(_) | Pick(..) => [false, true, false, false],
+        WriteVram(..) | LockedWriteVram(..) | LockedReadVram(_) => [true, false, false, false],
+        WriteOam(..) | OamBug(_) | Pick(..) | LockedWriteOam(..) | LockedReadOam(_) => {
+            [false, true, false, false]
+        }
         ReadRegister(_) | SetColour(_) => [false; 4],
     }
 }
@@ -69,7 +79,9 @@ fn has_argument(call: Call) -> bool {
     match call {
         WriteRegister(address, _) => WRITABLE.contains(&address),
         ReadRegister(address) => (0xFF68..=0xFF6B).contains(&address),
-        WriteOam(address, _) => address & 0xFF < 0xA0,
+        WriteOam(address, _) | LockedWriteOam(address, _) | LockedReadOam(address) => {
+            address & 0xFF < 0xA0
+        }
         Pick(line, tall) => line <= 143 && (tall == 8 || tall == 16),
         OamBug(kind) => kind <= 2,
         _ => true,
@@ -139,14 +151,7 @@ fn make(call: Call, s: State, m: &mut Memory) -> (u8, String) {
                 told(t.number == 0 || t.state == s, "the state as given"),
             )
         }
-        ReadRegister(address) => {
-            let t = ppu::read_register(s, address);
-            let kept = t.state == s && (t.number == 0 || t.value == 0);
-            (
-                t.number,
-                told(kept, "the state as given, and a value of 0 where refused"),
-            )
-        }
+        ReadRegister(address) => read(s, ppu::read_register(s, address)),
         WriteVram(address, value) => {
             let t = ppu::write_vram(s, &mut m.vram, address, value);
             (t.number, told(t.state == s, "the state as given"))
@@ -168,6 +173,16 @@ fn make(call: Call, s: State, m: &mut Memory) -> (u8, String) {
             let empty = t.selection.count == 0 && t.selection.slots == rattle::sprite::blank();
             (t.number, told(t.number == 0 || empty, "an empty pick"))
         }
+        LockedWriteVram(address, value) => {
+            let t = ppu::locked_write_vram(s, &mut m.vram, address, value);
+            (t.number, told(t.state == s, "the state as given"))
+        }
+        LockedWriteOam(address, value) => {
+            let t = ppu::locked_write_oam(s, &mut m.oam, address, value);
+            (t.number, told(t.state == s, "the state as given"))
+        }
+        LockedReadVram(address) => read(s, ppu::locked_read_vram(s, &m.vram, address)),
+        LockedReadOam(address) => read(s, ppu::locked_read_oam(s, &m.oam, address)),
         Screen => {
             let part = ppu::screen_buffer(s, &m.a, &m.b);
             let wanted = if s.beam.shown == 0 { &m.a } else { &m.b };
@@ -183,6 +198,15 @@ fn make(call: Call, s: State, m: &mut Memory) -> (u8, String) {
             )
         }
     }
+}
+
+/// What a read answers.
+fn read(s: State, t: ppu::ReadAnswer) -> (u8, String) {
+    let kept = t.state == s && (t.number == 0 || t.value == 0);
+    (
+        t.number,
+        told(kept, "the state as given, and a value of 0 where refused"),
+    )
 }
 
 fn told(holds: bool, what: &str) -> String {
@@ -216,7 +240,11 @@ fn check(
     let (got, fault) = caught(|| make(call, *s, m))
         .map_err(|stop| format!("  {:?}: {}\n{}", call, stop, states::shown(s).join("\n")))?;
     let lengths = [m.vram.len(), m.oam.len(), m.a.len(), m.b.len()];
-    let clean = wanted != 0 || matches!(call, ReadRegister(_) | SetColour(_) | Pick(..) | Screen);
+    let reads = matches!(
+        call,
+        ReadRegister(_) | SetColour(_) | Pick(..) | Screen | LockedReadVram(_) | LockedReadOam(_)
+    );
+    let clean = wanted != 0 || reads;
     let mut faults = vec![];
     if wanted != got {
         faults.push(format!("number: wanted {}, got {}", wanted, got));
@@ -345,6 +373,8 @@ pub fn lengths(bench: &mut Bench) -> Result<(), String> {
             WriteRegister(0xFF44, 1),
             ReadRegister(0xFF40),
             WriteOam(0xFEA0, 1),
+            LockedWriteOam(0xFEA0, 1),
+            LockedReadOam(0xFEA0),
             OamBug(3),
             Pick(144, 8),
         ];
@@ -522,6 +552,10 @@ pub fn addresses(bench: &mut Bench) -> Result<(), String> {
             ReadRegister(address),
             WriteVram(address, value),
             WriteOam(address, value),
+            LockedWriteVram(address, value),
+            LockedReadVram(address),
+            LockedWriteOam(address, value),
+            LockedReadOam(address),
         ];
         for call in calls {
             for s in [&s, &out] {

@@ -67,6 +67,22 @@ pub fn answer(
             let mode = s.regs.stat % 4;
             out[1..8].copy_from_slice(&[b.line, cycle[0], cycle[1], b.x, mode, end[0], end[1]]);
         }
+        16 => {
+            let t = ppu::locked_write_vram(*s, &mut m.vram, address, q[3]);
+            (out[0], *s) = (t.number, t.state);
+        }
+        17 => {
+            let t = ppu::locked_read_vram(*s, &m.vram, address);
+            (out[0], out[1], *s) = (t.number, t.value, t.state);
+        }
+        18 => {
+            let t = ppu::locked_write_oam(*s, &mut m.oam, address, q[3]);
+            (out[0], *s) = (t.number, t.state);
+        }
+        19 => {
+            let t = ppu::locked_read_oam(*s, &m.oam, address);
+            (out[0], out[1], *s) = (t.number, t.value, t.state);
+        }
         _ => out[0] = 255,
     }
     out

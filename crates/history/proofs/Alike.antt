@@ -3,6 +3,7 @@ use mathlib.Core.Path.{_≡_, refl, sym, _∙_}
 use mathlib.Core.List.{List, [], _∷_}
 use Rattle.history.specs.Run as run
 use Rattle.history.specs.Run.{World, Call, step, write, read, colour, bug, shown, pick, number}
+use Rattle.history.specs.Run.{lockedVram, lockedOam, readVram, readOam}
 use Rattle.history.specs.Run.{Deed, steps, writes, colours, stores, nothing, does, Turn, ours, astray, deedOf, perform}
 use Rattle.history.specs.Stored.{Trace, go, trace}
 use Rattle.history.specs.Demand.{Alike, AlikeRuns, Independent}
@@ -19,6 +20,10 @@ module _ {w v : World} (h : Alike w v) where
   same-number (bug kind) = rw (h .state, h .tables) refl
   same-number shown = rw (h .state, h .pictures .a, h .pictures .b) refl
   same-number (pick line tall) = rw (h .tables) refl
+  same-number (lockedVram address value) = rw (h .state, h .tables) refl
+  same-number (lockedOam address value) = rw (h .state, h .tables) refl
+  same-number (readVram address) = rw (h .state, h .tables) refl
+  same-number (readOam address) = rw (h .state, h .tables) refl
 
   -- a deed is found by number, state and tables alone
   same-deed : (c : Turn) → deedOf c w ≡ deedOf c v

@@ -1,6 +1,6 @@
 -- What is known of any call and of its deed, accepted or refused: the one proof of runs that goes call by call.
 use mathlib.Core.Path.{_≡_, refl, _∙_}
-use mathlib.Core.Bool.{Bool, true}
+use mathlib.Core.Bool.{Bool, true, cond}
 use mathlib.Core.List.{List}
 use Prim.Native.Nat.{ℕ, _<_}
 use native.Mathlib.Omega.{arith}
@@ -9,9 +9,10 @@ use lib.ListN.{length, length-set}
 use Rattle.logic.proofs.Tests.{by-test, clash}
 use Rattle.refusals.specs.Ladder.{own, done}
 use Rattle.refusals.proofs.Ladder.{Isnt, lowest-none, lowest-not-2, own-none, own-isnt, first-isnt}
-use Rattle.hardware.specs.Tables.{TablesSized, withOam}
+use Rattle.hardware.specs.Tables.{Tables, TablesSized, withVram, withOam}
 use Rattle.sprite.specs.Pick.{pickable, pickNumber}
 use Rattle.state.specs.declared.State.{State}
+use Rattle.memory.specs.Writes.{vramWritten}
 use Rattle.order.specs.Fine.{Fine}
 use Rattle.order.proofs.Clauses.{ordered}
 use Rattle.registers.specs.Registers.{listed}
@@ -20,9 +21,12 @@ use Rattle.oam_bug.specs.Kinds.{isKind}
 use Rattle.oam_bug.proofs.Rules.{length-corrupted}
 use Rattle.terms.specs.Numbers.{paced, inOam, timely}
 use Rattle.ports.specs.Calls.{bugRow}
+use Rattle.locks.specs.Closed.{closed}
+use Rattle.locks.specs.declared.Memory.the-variants.{Vram, Oam}
 use Rattle.terms.proofs.Pace.{Pace, pace}
 use Rattle.history.specs.Run as run
 use Rattle.history.specs.Run.{World, Call, step, write, read, colour, bug, shown, pick, number}
+use Rattle.history.specs.Run.{lockedVram, lockedOam, readVram, readOam}
 use Rattle.history.specs.Run.{Deed, steps, writes, colours, stores, nothing, deed, Turn, ours, astray, deedOf, swapsBy, swapped, stepping}
 
 -- a step is paced, and tables put in place have their sizes
@@ -50,6 +54,13 @@ module _ (w : World) (h : TablesSized (w .tables)) (f : Fine (w .state)) where
   on-oam : (oam : List ℕ) → length oam ≡ length (w .tables .oam) → TablesSized (withOam (w .tables) oam)
   on-oam oam e = record { vram = h .vram; oam = e ∙ h .oam }
 
+  on-vram : (address value : ℕ) → TablesSized (withVram (w .tables) (vramWritten (w .tables .vram) (w .state .regs .vbk) address value))
+  on-vram address value = record { vram = length-set (w .tables .vram) _ value ∙ h .vram; oam = h .oam }
+
+  -- tables that are put in place unless a memory is closed
+  unless : (b : Bool) {t : Tables} → TablesSized t → Lawful (cond b nothing (stores t)) (w .state)
+  unless b sized = by-test (λ (d : Deed). Lawful d (w .state)) b (λ e. tt) (λ e. sized)
+
   known : (c : Call) → Known c w
   unfolding pickNumber
   known (step n) =
@@ -58,7 +69,7 @@ module _ (w : World) (h : TablesSized (w .tables)) (f : Fine (w .state)) where
   known (read address) = record { accepted = λ e. tt; never2 = lowest-not-2 _ _ (ordered f) (other (readable address) (omega arith)) }
   known (run.vram address value) =
       record {
-        accepted = λ e. record { vram = length-set (w .tables .vram) _ value ∙ h .vram; oam = h .oam };
+        accepted = λ e. on-vram address value;
         never2 = lowest-not-2 _ _ (ordered f) (λ e. omega arith);
       }
   known (run.oam address value) =
@@ -75,6 +86,18 @@ module _ (w : World) (h : TablesSized (w .tables)) (f : Fine (w .state)) where
       }
   known shown = record { accepted = λ e. tt; never2 = lowest-not-2 _ _ (ordered f) (λ e. omega arith) }
   known (pick line tall) = record { accepted = λ e. tt; never2 = lowest-not-2 _ _ refl (other (pickable line tall) (omega arith)) }
+  known (lockedVram address value) =
+      record {
+        accepted = λ e. unless (closed Vram (w .state)) (on-vram address value);
+        never2 = lowest-not-2 _ _ (ordered f) (λ e. omega arith);
+      }
+  known (lockedOam address value) =
+      record {
+        accepted = λ e. unless (closed Oam (w .state)) (on-oam _ (length-set (w .tables .oam) _ value));
+        never2 = lowest-not-2 _ _ (ordered f) (other (inOam address) (omega arith));
+      }
+  known (readVram address) = record { accepted = λ e. tt; never2 = lowest-not-2 _ _ (ordered f) (λ e. omega arith) }
+  known (readOam address) = record { accepted = λ e. tt; never2 = lowest-not-2 _ _ (ordered f) (other (inOam address) (omega arith)) }
 
   pub lawful : (c : Turn) → Lawful (deedOf c w) (w .state)
   lawful (ours c) = by-test (λ (d : Deed). Lawful d (w .state)) (done (number c w)) (λ e. known c .accepted (eqb-true _ _ e)) (λ e. tt)

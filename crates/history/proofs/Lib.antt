@@ -41,3 +41,5 @@ pub mod Alike
 pub mod Exists
 -- all of them
 pub mod All
+-- a locked write is the unlocked one or none
+pub mod Locks

@@ -20,15 +20,19 @@ use Rattle.state.specs.declared.State.{State}
 use Rattle.memory.specs.Fresh.{freshState, cleared}
 use Rattle.terms.specs.Numbers.{startNumber, shownNumber}
 use Rattle.ports.specs.Calls.{readAnswer, colourAnswer, VramWrite, OamWrite, OamBug, Shown}
+use Rattle.locks.specs.Closed.{closed}
+use Rattle.locks.specs.Calls.{LockedVramWrite, LockedOamWrite, lockedVramRead, lockedOamRead}
+use Rattle.locks.specs.declared.Memory.the-variants.{Vram, Oam}
 use Rattle.ppu.specs.Calls.{Start, Step, RegisterWrite}
 use Rattle.ports.specs.declared.Answer.{Answer}
 use Rattle.ppu.specs.declared.StepAnswer.{StepAnswer}
 use Rattle.ports.specs.declared.ReadAnswer.{ReadAnswer}
 use Rattle.history.specs.Run as run
 use Rattle.history.specs.Run.{World, Call, step, write, read, colour, bug, shown, pick, number}
+use Rattle.history.specs.Run.{lockedVram, lockedOam, readVram, readOam}
 use Rattle.history.specs.Run.{Deed, steps, writes, colours, stores, nothing, deed, does, freshWorld}
 use Rattle.history.specs.Public.{world, Performs, Stepped, Started, Writes, Reads, WritesVram, WritesOam, Colours, Corrupts}
-use Rattle.history.specs.Public.{Asks, Picks}
+use Rattle.history.specs.Public.{Asks, Picks, WritesLockedVram, WritesLockedOam, ReadsVram, ReadsOam}
 
 -- a state and pictures that one test chooses: those of a deed, or as they were
 pictured : (test : Bool) (d : Deed) (w : World) {s : State} {p : Pictures} → does d w .tables ≡ w .tables
@@ -50,7 +54,7 @@ stays true = refl
 stays false = refl
 
 -- a call that does nothing
-idle : (test : Bool) (w : World) → w ≡ does (cond test nothing nothing) w
+pub idle : (test : Bool) (w : World) → w ≡ does (cond test nothing nothing) w
 idle true w = refl
 idle false w = refl
 
@@ -101,15 +105,21 @@ write-performs {s} {p} {address} {value} d t =
     let test = done (number (write address value) w) in
     record { number = d .number; world = pictured test (writes address value) w refl (d .state) (d .pictures) }
 
+-- a read: the answer is given by an equation, and nothing is done
+looks : (c : Call) (w : World) {q r : ReadAnswer} → deed c (w .state) (w .tables) ≡ nothing → q .number ≡ number c w → q .state ≡ w .state
+    → r ≡ q → Performs c w (r .number) (world (r .state) (w .tables) (w .pictures))
+looks c w d n s e =
+    record {
+      number = ap (λ (z : ReadAnswer). z .number) e ∙ n;
+      world =
+          ap (λ (z : ReadAnswer). world (z .state) (w .tables) (w .pictures)) e ∙ ap (λ (z : State). world z (w .tables) (w .pictures)) s
+          ∙ rw d (idle (done (number c w)) w);
+    }
+
 pub read-performs : {s : State} {address : ℕ} {r : ReadAnswer} → r ≡ readAnswer s address → Reads s address r
 read-performs {s} {address} e =
     record {
-      performs = λ t p.
-          record {
-            number = ap (λ (z : ReadAnswer). z .number) e;
-            world =
-                ap (λ (z : ReadAnswer). world (z .state) t p) e ∙ idle (done (number (read address) (world s t p))) (world s t p);
-          };
+      performs = λ t p. looks (read address) (world s t p) refl refl refl e;
       value = ap (λ (z : ReadAnswer). z .value) e;
     }
 
@@ -147,6 +157,42 @@ pub bug-performs : {kind : ℕ} {s : State} {oam oam′ : List ℕ} {r : Answer}
     → OamBug kind s oam r oam′ → Corrupts kind s oam r oam′
 bug-performs {kind} {s} {oam} d vram p =
     changes (bug kind) (world s (tables vram oam) p) (tables vram) _ _ refl refl (d .number) (d .state) (d .corrupted)
+
+-- a call that changes one table alone unless a memory is closed, and gives the state back
+changes-unless : (c : Call) (w : World) (f : List ℕ → Tables) (b : Bool) (x y : List ℕ) {given : ℕ} {s : State} {l : List ℕ}
+    → deed c (w .state) (w .tables) ≡ cond b nothing (stores (f x)) → f y ≡ w .tables → given ≡ number c w → s ≡ w .state
+    → l ≡ cond (done (number c w)) (cond b y x) y → Performs c w given (world s (f l) (w .pictures))
+changes-unless c w f true x y {l = l} d t n e h =
+    record {
+      number = n;
+      world =
+          ap (λ (z : State). world z (f l) (w .pictures)) e
+          ∙ ap (λ (z : Tables). world (w .state) z (w .pictures)) (ap f (h ∙ sym (stays (done (number c w)))) ∙ t)
+          ∙ rw d (idle (done (number c w)) w);
+    }
+changes-unless c w f false x y d t n e h = changes c w f x y d t n e h
+
+pub locked-vram-performs : {s : State} {vram vram′ : List ℕ} {address value : ℕ} {r : Answer}
+    → LockedVramWrite s vram address value r vram′ → WritesLockedVram s vram address value r vram′
+locked-vram-performs {s} {vram} {address = address} {value} d oam p =
+    changes-unless (lockedVram address value) (world s (tables vram oam) p) (λ (z : List ℕ). tables z oam) (closed Vram s) _ _ refl refl
+    (d .number) (d .state) (d .written)
+
+pub locked-oam-performs : {s : State} {oam oam′ : List ℕ} {address value : ℕ} {r : Answer}
+    → LockedOamWrite s oam address value r oam′ → WritesLockedOam s oam address value r oam′
+locked-oam-performs {s} {oam} {address = address} {value} d vram p =
+    changes-unless (lockedOam address value) (world s (tables vram oam) p) (tables vram) (closed Oam s) _ _ refl refl (d .number) (d .state)
+    (d .written)
+
+pub read-vram-performs : {s : State} {vram : List ℕ} {address : ℕ} {r : ReadAnswer}
+    → r ≡ lockedVramRead s vram address → ReadsVram s vram address r
+read-vram-performs {s} {vram} {address} e =
+    record { performs = λ oam p. looks (readVram address) (world s (tables vram oam) p) refl refl refl e; answer = e }
+
+pub read-oam-performs : {s : State} {oam : List ℕ} {address : ℕ} {r : ReadAnswer}
+    → r ≡ lockedOamRead s oam address → ReadsOam s oam address r
+read-oam-performs {s} {oam} {address} e =
+    record { performs = λ vram p. looks (readOam address) (world s (tables vram oam) p) refl refl refl e; answer = e }
 
 -- the bytes of the picture chosen
 chosen-bytes : (k : ℕ) (a b : RefT (List ℕ)) → now (chosen k a b) ≡ shownOf k (pictures (now a) (now b))

@@ -5,3 +5,5 @@ pub mod Stored
 pub mod Demand
 -- the one corruption call stands for the three
 pub mod AsBefore
+-- a locked write is the unlocked one or none
+pub mod Locks

@@ -18,12 +18,14 @@ use Rattle.step.specs.Step.{report}
 use Rattle.step.specs.declared.Report.{Report}
 use Rattle.terms.specs.Numbers.{startNumber, readNumber}
 use Rattle.ports.specs.Calls.{EmptyPart}
+use Rattle.locks.specs.Calls.{lockedVramRead, lockedOamRead}
 use Rattle.ppu.specs.Calls.{noReport}
 use Rattle.ports.specs.declared.Answer.{Answer}
 use Rattle.ppu.specs.declared.StepAnswer.{StepAnswer}
 use Rattle.ports.specs.declared.ReadAnswer.{ReadAnswer}
 use Rattle.history.specs.Run as run
 use Rattle.history.specs.Run.{World, Call, step, write, read, colour, bug, shown, pick, ours, perform, freshWorld}
+use Rattle.history.specs.Run.{lockedVram, lockedOam, readVram, readOam}
 
 abbrev pub world : State → Tables → Pictures → World
 world s t p = record { state = s; tables = t; pictures = p }
@@ -92,3 +94,25 @@ pub record Picks (oam : List ℕ) (line tall : ℕ) (r : Picked) : Type 0 where
   pub performs : (s : State) (vram : List ℕ) (p : Pictures)
       → Performs (pick line tall) (world s (tables vram oam) p) (r .number) (world s (tables vram oam) p)
   pub picked : r ≡ pickOf oam line tall
+
+-- the locked writes; what they have to do with the old ones stands in Locks
+abbrev pub WritesLockedVram : State → List ℕ → ℕ → ℕ → Answer → List ℕ → Type 0
+WritesLockedVram s vram address value r vram′ =
+    (oam : List ℕ) (p : Pictures)
+    → Performs (lockedVram address value) (world s (tables vram oam) p) (r .number) (world (r .state) (tables vram′ oam) p)
+
+abbrev pub WritesLockedOam : State → List ℕ → ℕ → ℕ → Answer → List ℕ → Type 0
+WritesLockedOam s oam address value r oam′ =
+    (vram : List ℕ) (p : Pictures)
+    → Performs (lockedOam address value) (world s (tables vram oam) p) (r .number) (world (r .state) (tables vram oam′) p)
+
+-- the locked reads: besides, the answer as `locks` has it
+pub record ReadsVram (s : State) (vram : List ℕ) (address : ℕ) (r : ReadAnswer) : Type 0 where
+  pub performs : (oam : List ℕ) (p : Pictures)
+      → Performs (readVram address) (world s (tables vram oam) p) (r .number) (world (r .state) (tables vram oam) p)
+  pub answer : r ≡ lockedVramRead s vram address
+
+pub record ReadsOam (s : State) (oam : List ℕ) (address : ℕ) (r : ReadAnswer) : Type 0 where
+  pub performs : (vram : List ℕ) (p : Pictures)
+      → Performs (readOam address) (world s (tables vram oam) p) (r .number) (world (r .state) (tables vram oam) p)
+  pub answer : r ≡ lockedOamRead s oam address

@@ -19,7 +19,10 @@ use Rattle.draw.specs.declared.Shot.{Shot}
 use Rattle.beam.specs.Advance.{swaps}
 use Rattle.step.specs.Step.{lit, stepped, shotsOf, picturesAfter}
 use Rattle.terms.specs.Numbers.{stepNumber, writeNumber, readNumber, vramNumber, oamNumber, colourNumber, kindNumber, shownNumber}
+use Rattle.terms.specs.Numbers.{lockedOamNumber}
 use Rattle.ports.specs.Calls.{bugRow}
+use Rattle.locks.specs.Closed.{closed}
+use Rattle.locks.specs.declared.Memory.the-variants.{Vram, Oam}
 
 -- the state and what is lent
 pub record World : Type 0 where
@@ -38,6 +41,10 @@ pub data Call : Type 0 where
   bug : ℕ → Call
   shown : Call
   pick : ℕ → ℕ → Call
+  lockedVram : ℕ → ℕ → Call
+  lockedOam : ℕ → ℕ → Call
+  readVram : ℕ → Call
+  readOam : ℕ → Call
 
 -- the number that a call is given in a world; of the shown picture it is not given out: at 0 a picture is, else the empty part
 abbrev pub number : Call → World → ℕ
@@ -50,6 +57,10 @@ number (colour flag) w = colourNumber (w .state)
 number (bug kind) w = kindNumber (w .state) (w .tables .oam) kind
 number shown w = shownNumber (w .state) (w .pictures)
 number (pick line tall) w = pickNumber (w .tables .oam) line tall
+number (lockedVram address value) w = vramNumber (w .state) (w .tables .vram)
+number (lockedOam address value) w = lockedOamNumber (w .state) (w .tables .oam) address
+number (readVram address) w = vramNumber (w .state) (w .tables .vram)
+number (readOam address) w = lockedOamNumber (w .state) (w .tables .oam) address
 
 -- what a call can do: a step of n cycles, a write of a value to a register, the colour flag, other tables in place, or nothing
 pub data Deed : Type 0 where
@@ -70,6 +81,11 @@ deed (colour flag) s t = colours flag
 deed (bug kind) s t = stores (withOam t (corrupted kind (t .oam) (bugRow s)))
 deed shown s t = nothing
 deed (pick line tall) s t = nothing
+deed (lockedVram address value) s t =
+    cond (closed Vram s) nothing (stores (withVram t (vramWritten (t .vram) (s .regs .vbk) address value)))
+deed (lockedOam address value) s t = cond (closed Oam s) nothing (stores (withOam t (oamWritten (t .oam) address value)))
+deed (readVram address) s t = nothing
+deed (readOam address) s t = nothing
 
 -- what a deed makes of the world
 abbrev pub does : Deed → World → World

@@ -5,6 +5,7 @@ ghost use Rattle.hardware.specs.Tables.{tables};
 ghost use Rattle.lcd.specs.Pictures.{pictures};
 ghost use Rattle.history.specs.Public.{world, Started, Stepped, Writes, Reads, WritesVram, WritesOam, Colours};
 ghost use Rattle.history.specs.Public.{Corrupts, Asks, Picks};
+ghost use Rattle.history.specs.Public.{WritesLockedVram, WritesLockedOam, ReadsVram, ReadsOam};
 use hardware::Machine;
 use ppu::Answer;
 use ppu::ReadAnswer;
@@ -81,4 +82,28 @@ pub fn pick(oam: &[u8], line: u8, tall: u8) -> Picked
     ensures { λ r. ⌜ Picks (now (oam .entry)) line tall r ⌝ }
 {
     ppu::pick(oam, line, tall)
+}
+
+pub fn locked_write_vram(s: State, vram: &mut [u8], address: u16, value: u8) -> Answer
+    ensures { λ r. ⌜ WritesLockedVram s (now (vram .entry)) address value r (now (vram .exit)) ⌝ }
+{
+    ppu::locked_write_vram(s, vram, address, value)
+}
+
+pub fn locked_write_oam(s: State, oam: &mut [u8], address: u16, value: u8) -> Answer
+    ensures { λ r. ⌜ WritesLockedOam s (now (oam .entry)) address value r (now (oam .exit)) ⌝ }
+{
+    ppu::locked_write_oam(s, oam, address, value)
+}
+
+pub fn locked_read_vram(s: State, vram: &[u8], address: u16) -> ReadAnswer
+    ensures { λ r. ⌜ ReadsVram s (now (vram .entry)) address r ⌝ }
+{
+    ppu::locked_read_vram(s, vram, address)
+}
+
+pub fn locked_read_oam(s: State, oam: &[u8], address: u16) -> ReadAnswer
+    ensures { λ r. ⌜ ReadsOam s (now (oam .entry)) address r ⌝ }
+{
+    ppu::locked_read_oam(s, oam, address)
 }

@@ -1,4 +1,4 @@
-// The lent memory: the start, and writes to VRAM and OAM.
+// The lent memory: the start, writes to VRAM and OAM, reads of OAM.
 ghost use mathlib.Core.Path.{_≡_};
 ghost use Prim.Native.Nat.{_<_, _≤_, _%_};
 ghost use lib.ListN.{length};
@@ -6,6 +6,7 @@ ghost use Rattle.hardware.specs.Tables.{tables, vramBytes, oamBytes};
 ghost use Rattle.lcd.specs.Pictures.{pictures};
 ghost use Rattle.memory.specs.Fresh.{inColour, freshRegisters, freshPalettes, freshPipe, freshBeam, freshState, Started};
 ghost use Rattle.memory.specs.Writes.{vramWritten, oamWritten};
+ghost use Rattle.memory.specs.Reads.{oamRead};
 use colors::PaletteSet;
 use fifo::BgFifo;
 use fifo::SpriteFifo;
@@ -154,4 +155,12 @@ pub fn write_oam(oam: &mut [u8], address: u16, value: u8)
 {
     let at = (address % 256) as usize;
     oam[at] = value;
+}
+
+// The byte of OAM at the low byte of an address.
+pub fn read_oam(oam: &[u8], address: u16) -> u8
+    requires { ⌜ (length (now oam) ≡ oamBytes) × (address % 256 < oamBytes) ⌝ }
+    ensures { λ r. ⌜ r ≡ oamRead (now (oam .entry)) address ⌝ }
+{
+    oam[(address % 256) as usize]
 }

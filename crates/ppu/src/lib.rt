@@ -1,11 +1,16 @@
 // The picture unit, the face of every call of the scope: start, step and register write stand here, the calls that touch no
-// picture or only show one in `ports`. Their numbers are of the crate `terms`. No call asks anything of its caller.
+// picture or only show one in `ports`, the locked ones in `locks`. Their numbers are of the crate `terms`. No call asks anything of
+// its caller.
 ghost use mathlib.Core.Path.{_≡_};
 ghost use Rattle.hardware.specs.Tables.{tables};
 ghost use Rattle.lcd.specs.Pictures.{pictures};
 ghost use Rattle.ppu.specs.Calls.{Start, noReport, Step, RegisterWrite};
 use beam::Mark;
 use hardware::Machine;
+pub use locks::locked_read_oam;
+pub use locks::locked_read_vram;
+pub use locks::locked_write_oam;
+pub use locks::locked_write_vram;
 pub use ports::Answer;
 pub use ports::ReadAnswer;
 pub use ports::oam_bug;

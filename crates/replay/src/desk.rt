@@ -160,6 +160,28 @@ fn write_oam(desk: Desk, oam: &mut [u8; Machine::OAM_BYTES], q: [u8; 8]) -> Repl
     told(desk, number, 0)
 }
 
+// A locked write and a locked read of VRAM.
+fn locked_write_vram(desk: Desk, vram: &mut [u8; Machine::VRAM_BYTES], q: [u8; 8]) -> Reply {
+    let written = ppu::locked_write_vram(desk.state, vram, address_of(q), q[3]);
+    moved(desk, written.number, written.state)
+}
+
+fn locked_read_vram(desk: Desk, vram: &[u8; Machine::VRAM_BYTES], q: [u8; 8]) -> Reply {
+    let read = ppu::locked_read_vram(desk.state, vram, address_of(q));
+    told(handed(desk, read.state), read.number, read.value)
+}
+
+// A locked write and a locked read of OAM.
+fn locked_write_oam(desk: Desk, oam: &mut [u8; Machine::OAM_BYTES], q: [u8; 8]) -> Reply {
+    let written = ppu::locked_write_oam(desk.state, oam, address_of(q), q[3]);
+    moved(desk, written.number, written.state)
+}
+
+fn locked_read_oam(desk: Desk, oam: &[u8; Machine::OAM_BYTES], q: [u8; 8]) -> Reply {
+    let read = ppu::locked_read_oam(desk.state, oam, address_of(q));
+    told(handed(desk, read.state), read.number, read.value)
+}
+
 // The colour flag.
 fn set_colour(desk: Desk, flag: u8) -> Reply {
     let set = ppu::set_colour(desk.state, flag != 0);
@@ -251,6 +273,10 @@ fn small(
         13 => pick(desk, oam, q[1], q[2]),
         14 => slot(desk, q[1]),
         15 => look(desk),
+        16 => locked_write_vram(desk, vram, q),
+        17 => locked_read_vram(desk, vram, q),
+        18 => locked_write_oam(desk, oam, q),
+        19 => locked_read_oam(desk, oam, q),
         _ => unknown(desk),
     }
 }

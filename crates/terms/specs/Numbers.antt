@@ -47,6 +47,10 @@ vramNumber s vram = lowest (vramFits vram) (inOrder s) 0
 abbrev pub oamNumber : List ℕ → ℕ → ℕ
 oamNumber oam address = lowest (oamFits oam) true (own (inOam address) 4)
 
+-- request 12: a locked OAM call, write or read, takes the state besides; a locked VRAM call has the number of a VRAM write
+abbrev pub lockedOamNumber : State → List ℕ → ℕ → ℕ
+lockedOamNumber s oam address = lowest (oamFits oam) (inOrder s) (own (inOam address) 4)
+
 abbrev pub colourNumber : State → ℕ
 colourNumber s = lowest true (inOrder s) 0
 

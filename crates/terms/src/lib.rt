@@ -5,8 +5,8 @@ ghost use mathlib.Core.Bool.{true, _&&_};
 ghost use Rattle.hardware.specs.Tables.{tables, tablesFit};
 ghost use Rattle.lcd.specs.Pictures.{pictures, picturesFit};
 ghost use Rattle.registers.specs.Registers.{listed};
-ghost use Rattle.terms.specs.Numbers.{paced, timely, stepNumber, writeNumber, readNumber};
-ghost use Rattle.terms.specs.Numbers.{vramNumber, oamNumber, colourNumber, kindNumber, shownNumber, Graded};
+ghost use Rattle.terms.specs.Numbers.{paced, inOam, timely, stepNumber, writeNumber, readNumber};
+ghost use Rattle.terms.specs.Numbers.{vramNumber, oamNumber, lockedOamNumber, colourNumber, kindNumber, shownNumber, Graded};
 use hardware::Machine;
 use state::State;
 
@@ -67,6 +67,13 @@ fn is_timely(s: State) -> bool
     s.beam.cycle <= 83
 }
 
+// Whether the low byte of an address is in OAM.
+fn is_in_oam(address: u16) -> bool
+    ensures { λ r. ⌜ r ≡ inOam address ⌝ }
+{
+    ((address % 256) as usize) < Machine::OAM_BYTES
+}
+
 // Whether a register can be written.
 fn is_listed(address: u16) -> bool
     ensures { λ r. ⌜ r ≡ listed address ⌝ }
@@ -120,11 +127,21 @@ pub fn vram_number(s: State, vram: &[u8]) -> u8
 pub fn oam_number(oam: &[u8], address: u16) -> u8
     ensures { λ r. ⌜ r ≡ oamNumber (now (oam .entry)) address ⌝ }
 {
-    let inside = ((address % 256) as usize) < Machine::OAM_BYTES;
     refusals::lowest(
         oam.len() == Machine::OAM_BYTES,
         true,
-        refusals::own(inside, 4),
+        refusals::own(is_in_oam(address), 4),
+    )
+}
+
+// The number of a locked OAM call, write or read: refused by 1, 2, 4.
+pub fn locked_oam_number(s: State, oam: &[u8], address: u16) -> u8
+    ensures { λ r. ⌜ Graded s (lockedOamNumber s (now (oam .entry)) address) r ⌝ }
+{
+    refusals::lowest(
+        oam.len() == Machine::OAM_BYTES,
+        order::in_order(s),
+        refusals::own(is_in_oam(address), 4),
     )
 }
 

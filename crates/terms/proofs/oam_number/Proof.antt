@@ -4,8 +4,8 @@ use borrow.Author.Needs.{needs}
 use Rattle.terms.proofs.oam_number.Statement.{statement}
 use Rattle.terms.proofs.oam_number.Tie as tie
 
-cast-inside : tie.Need-cast-inside
-cast-inside c = search needs
+is-in-oam-requires : tie.Need-is-in-oam-requires
+is-in-oam-requires c κs = search needs
 
 own-requires : tie.Need-own-requires
 own-requires c κs = search needs
@@ -14,7 +14,9 @@ lowest-requires : tie.Need-lowest-requires
 lowest-requires c κs = search needs
 
 returns : tie.Need-returns
-returns c = c .lowest .ensures ∙ rw (c .before .own .ensures)
+returns c =
+    let own = c .before in
+    c .lowest .ensures ∙ rw (own .own .ensures, own .before .is-in-oam .ensures)
 
 pub oam-number-spec : {M : Type 1} → statement M
-oam-number-spec = tie.close (tie.spec cast-inside own-requires lowest-requires returns)
+oam-number-spec = tie.close (tie.spec is-in-oam-requires own-requires lowest-requires returns)
