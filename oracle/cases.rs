@@ -1248,6 +1248,25 @@ fn lock_cases(run: &mut Named) {
         format!("{}, {}", scanned, drawn),
     ));
 
+    // Off at LCD x 159: mode 3 of the first line begins and ends in the step at cycle 80.
+    run.call(&[1, 1, 0]);
+    run.oam(0, 0x12);
+    steps(run, TO_LINE_0 + 20);
+    for _ in 0..87 {
+        run.step(2);
+    }
+    run.register(0x40, ON & 0x7F);
+    run.register(0x40, ON);
+    steps(run, 19);
+    let before = oam_locks(run);
+    let mode = run.step(2)[2];
+    let after = oam_locks_by(run, 3, 2);
+    run.end(case(
+        "locks, OAM at cycle 80 of a first line of one place; mode at 82; OAM at 82 to 88: here, published",
+        "open open; 0; open closed, open closed, open closed, open open",
+        format!("{}; {}; {}", before, mode, after),
+    ));
+
     // Mode 3: the published crate has no lock of VRAM.
     run.call(&[1, 1, 0]);
     run.vram(0x8000, 0x12);
