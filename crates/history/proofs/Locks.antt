@@ -15,12 +15,12 @@ use Rattle.locks.specs.Closed.{closed}
 use Rattle.locks.specs.declared.Memory.{Memory}
 use Rattle.locks.specs.declared.Memory.the-variants.{Vram, Oam}
 use Rattle.history.specs.Run as run
-use Rattle.history.specs.Run.{World, Call, lockedVram, lockedOam, readVram, readOam, number, ours, perform}
+use Rattle.history.specs.Run.{World, Call, lockedVram, lockedOam, readVram, readOam, number}
 use Rattle.history.specs.Run.{Deed, nothing, deed, does, shotsBy, swapsBy, blanksBy}
 use Rattle.history.specs.Stored.{storedBy, Trace}
 use Rattle.history.specs.Locks.{InRun, OldOrNone, LocksHold}
 use Rattle.history.proofs.Places.{stored-none}
-use Rattle.history.proofs.Public.{idle}
+use Rattle.history.proofs.Public.{idle, rests}
 use Rattle.history.proofs.Phase.{Base}
 use Rattle.history.proofs.Invariant.{Inv, of-runs}
 
@@ -80,9 +80,6 @@ module _ (memory : Memory) (locked old : Call)
         inRuns = of-runs (InRun memory locked old) (λ base t. in-run);
       }
 
-looks : (c : Call) (w : World) → deed c (w .state) (w .tables) ≡ nothing → perform (ours c) w ≡ w
-looks c w d = rw d (sym (idle (done (number c w)) w))
-
 pub locks-hold : LocksHold
 locks-hold =
     record {
@@ -92,6 +89,6 @@ locks-hold =
       writesOam = λ address value.
           old-or-none Oam (lockedOam address value) (run.oam address value) (λ s t. refl) (λ w f. rw f refl)
           (λ w z. lowest-none (oamFits (w .tables .oam)) (inOrder (w .state)) z .ordered);
-      readsVram = λ address w. looks (readVram address) w refl;
-      readsOam = λ address w. looks (readOam address) w refl;
+      readsVram = λ address w. sym (rests (readVram address) w refl);
+      readsOam = λ address w. sym (rests (readOam address) w refl);
     }

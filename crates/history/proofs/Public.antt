@@ -30,7 +30,7 @@ use Rattle.ports.specs.declared.ReadAnswer.{ReadAnswer}
 use Rattle.history.specs.Run as run
 use Rattle.history.specs.Run.{World, Call, step, write, read, colour, bug, shown, pick, number}
 use Rattle.history.specs.Run.{lockedVram, lockedOam, readVram, readOam}
-use Rattle.history.specs.Run.{Deed, steps, writes, colours, stores, nothing, deed, does, freshWorld}
+use Rattle.history.specs.Run.{Deed, steps, writes, colours, stores, nothing, deed, does, ours, perform, freshWorld}
 use Rattle.history.specs.Public.{world, Performs, Stepped, Started, Writes, Reads, WritesVram, WritesOam, Colours, Corrupts}
 use Rattle.history.specs.Public.{Asks, Picks, WritesLockedVram, WritesLockedOam, ReadsVram, ReadsOam}
 
@@ -57,6 +57,9 @@ stays false = refl
 pub idle : (test : Bool) (w : World) → w ≡ does (cond test nothing nothing) w
 idle true w = refl
 idle false w = refl
+
+pub rests : (c : Call) (w : World) → deed c (w .state) (w .tables) ≡ nothing → w ≡ perform (ours c) w
+rests c w d = rw d (idle (done (number c w)) w)
 
 -- a start leaves the fresh world, whatever the lent buffers held, or what was lent as it was
 begins : {m : Machine} {t : Tables} {p : Pictures} {r : Answer} {t′ : Tables} {p′ : Pictures} → Start m t p r t′ p′
@@ -113,7 +116,7 @@ looks c w d n s e =
       number = ap (λ (z : ReadAnswer). z .number) e ∙ n;
       world =
           ap (λ (z : ReadAnswer). world (z .state) (w .tables) (w .pictures)) e ∙ ap (λ (z : State). world z (w .tables) (w .pictures)) s
-          ∙ rw d (idle (done (number c w)) w);
+          ∙ rests c w d;
     }
 
 pub read-performs : {s : State} {address : ℕ} {r : ReadAnswer} → r ≡ readAnswer s address → Reads s address r
@@ -168,7 +171,7 @@ changes-unless c w f true x y {l = l} d t n e h =
       world =
           ap (λ (z : State). world z (f l) (w .pictures)) e
           ∙ ap (λ (z : Tables). world (w .state) z (w .pictures)) (ap f (h ∙ sym (stays (done (number c w)))) ∙ t)
-          ∙ rw d (idle (done (number c w)) w);
+          ∙ rests c w d;
     }
 changes-unless c w f false x y d t n e h = changes c w f x y d t n e h
 

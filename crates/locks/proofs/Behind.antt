@@ -5,14 +5,10 @@ use mathlib.Core.List.{List}
 use Prim.Native.Nat.{ℕ}
 use Rattle.refusals.proofs.Given.{refused, accepted}
 use Rattle.state.specs.declared.State.{State}
-use Rattle.ports.specs.declared.Answer.{Answer}
+use Rattle.ports.proofs.Answers.{given}
 use Rattle.locks.specs.Closed.{closed}
 use Rattle.locks.specs.Calls.{LockedWrite}
 use Rattle.locks.specs.declared.Memory.{Memory}
-
--- the number with the state as given
-abbrev given : ℕ → State → Answer
-given r s = record { number = r; state = s }
 
 module _ {memory : Memory} {s : State} {number r : ℕ} {old bytes : List ℕ} (e : r ≡ number) where
   pub write-refused : (r ≡ 0 → ⊥) → LockedWrite memory s number old bytes (given r s) bytes

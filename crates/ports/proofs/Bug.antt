@@ -17,7 +17,7 @@ use Rattle.oam_bug.specs.Kinds.{isKind, corrupted}
 use Rattle.oam_bug.proofs.Rows.{row-below}
 use Rattle.terms.specs.Numbers.{timely, kindNumber, Graded}
 use Rattle.ports.specs.Calls.{bugRow, OamBug}
-use Rattle.ports.specs.declared.Answer.{Answer}
+use Rattle.ports.proofs.Answers.{given}
 use Rattle.terms.proofs.Graded.{graded-fine}
 
 -- in mode 2 a timely one has a cycle from 4 to 83
@@ -40,10 +40,6 @@ corruptible {s} {sized} kind g z =
     let both = first-none (own (isKind kind) 4) (own (timely s) 5) (f .own) in
     let moment = timely-cycle s (own-none (timely s) (omega arith) (both .1)) in
     record { sized = f .sized; known = own-none (isKind kind) (omega arith) (both .0); moment = moment; row = row-below _ _ moment }
-
--- the number with the state as given
-abbrev given : ℕ → State → Answer
-given r s = record { number = r; state = s }
 
 module _ {kind : ℕ} {s : State} {oam : List ℕ} {r : ℕ} (g : Graded s (kindNumber s oam kind) r) where
   pub bug-refused : (r ≡ 0 → ⊥) → OamBug kind s oam (given r s) oam

@@ -3,7 +3,7 @@
 pub mod Bug
 -- each kind is what its own call was
 pub mod AsBefore
--- answers are equal by their parts
+-- an answer with the state as given; answers are equal by their parts
 pub mod Answers
 -- no promise leaves freedom
 pub mod Coincide
