@@ -53,6 +53,7 @@ const PARTS: &[(&str, Part)] = &[
     ("line sets, untrue", line_sets::untrue),
     ("line sets, refusals", line_sets::refused),
     ("lcd", lcd::stores),
+    ("tiles, rows", tiles::rows),
     ("tiles, fetches", tiles::fetches),
     ("tiles, sprites", tiles::sprites),
     ("oam_bug", oam_bug::corruptions),
@@ -90,7 +91,7 @@ const PARTS: &[(&str, Part)] = &[
 ];
 
 /// The cases of all parts at their own sizes, seed 1: a part that lost some is seen.
-const ALL: u64 = 33_148_927;
+const ALL: u64 = 33_279_999;
 
 fn main() {
     let words: Vec<String> = std::env::args().skip(1).collect();

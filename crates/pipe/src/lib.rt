@@ -133,7 +133,7 @@ pub fn cycle_fetcher(vram: &[u8], r: Registers, line: u8, p: Pipe) -> Pipe
         column: p.fetcher.column,
     };
     let fetched = tiles::fetch_bg(vram, fetch);
-    let fetcher = take_row(p.fetcher, fetched);
+    let fetcher = take_row(p.fetcher, fetched.tile);
     n.fetcher = fetcher;
     n
 }

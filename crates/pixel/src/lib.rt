@@ -66,7 +66,8 @@ pub fn add_sprite(
     if !tiles::starts_at(s.sprite, at.x) {
         return q;
     }
-    let colors = tiles::sprite_colors(vram, s.sprite, at.line, tall_of(r.lcdc), at.x);
+    let row = tiles::sprite_colors(vram, s.sprite, at.line, tall_of(r.lcdc), at.x);
+    let colors = row.colors;
     let ink = ink_of(r, palettes, s);
     q.push(colors, ink, r.coord)
 }

@@ -1,12 +1,13 @@
-// Tile rows out of VRAM: the background's by the map, and the sprites'.
+// Tile rows out of VRAM, each with where it was read: the background's by the map, and the sprites'.
 ghost use mathlib.Core.Path.{_≡_};
 ghost use mathlib.Core.List.{reverse};
 ghost use Prim.Native.Nat.{_<_, _≤_};
 ghost use lib.ListN.{length};
 ghost use Rattle.hardware.specs.Tables.{bankBytes, vramBytes};
-ghost use Rattle.tiles.specs.Tile.{byteAt, colourIn, rowOf, rowAt, mirrored, tileAddress};
-ghost use Rattle.tiles.specs.Map.{mapAddress, tileLine, bgAddress, pattern, fetchTile, bgOff, noTile, fetchBg};
-ghost use Rattle.tiles.specs.Objects.{spriteLine, firstTile, spriteAddress, spriteRow, startsLeft, startsAt, spriteColours};
+ghost use Rattle.tiles.specs.Tile.{byteAt, colourIn, rowOf, mirrored, tileAddress};
+ghost use Rattle.tiles.specs.Map.{mapAddress, tileLine, bgAddress, bgOff};
+ghost use Rattle.tiles.specs.Objects.{spriteLine, firstTile, spriteAddress, startsLeft, startsAt};
+ghost use Rattle.tiles.specs.Sources.{tileRow, flipped, patternRow, fetchedTile, nothingFetched, fetchedRow, spriteTileRow, startedRow};
 use bg_attribs::BgAttribute;
 use hardware::Machine;
 use sprite::Sprite;
@@ -15,6 +16,18 @@ use sprite::Sprite;
 pub struct Address {
     pub bank: u8,
     pub offset: u16,
+}
+
+// Where a row was read: at the address of its first byte, or nowhere.
+pub enum Source {
+    ReadAt(Address),
+    NothingRead,
+}
+
+// A row as it was read: eight colours, leftmost first, and their source.
+pub struct TileRow {
+    pub colors: [u8; 8],
+    pub source: Source,
 }
 
 // The byte of a bank at an address, modulo the bank's bytes.
@@ -49,14 +62,19 @@ pub fn row_of(low: u8, high: u8) -> [u8; 8]
     ]
 }
 
-// The row that stands at an address: rows are read here and nowhere else.
-pub fn read_row(vram: &[u8], address: Address) -> [u8; 8]
+// The row that stands at an address, and that address as its source. Rows are read here and nowhere else: whatever is to read
+// one, a line painter or a check of written tiles, goes through this.
+pub fn tile_row(vram: &[u8], address: Address) -> TileRow
     requires { ⌜ (length (now vram) ≡ vramBytes) × (address .bank ≤ 1) × (address .offset < bankBytes) ⌝ }
-    ensures { λ r. ⌜ r ≡ rowAt (now (vram .entry)) address ⌝ }
+    ensures { λ r. ⌜ r ≡ tileRow (now (vram .entry)) address ⌝ }
 {
+    let second = address.offset + 1;
     let low = read_vram_banked(vram, address.bank, address.offset);
-    let high = read_vram_banked(vram, address.bank, address.offset + 1);
-    row_of(low, high)
+    let high = read_vram_banked(vram, address.bank, second);
+    TileRow {
+        colors: row_of(low, high),
+        source: Source::ReadAt(address),
+    }
 }
 
 // A row from right to left.
@@ -80,6 +98,19 @@ pub fn mirror(flip: bool, row: [u8; 8]) -> [u8; 8]
     ensures { λ r. ⌜ r ≡ mirrored flip row ⌝ }
 {
     if flip { reversed(row) } else { row }
+}
+
+// A row that was read, mirrored on an x flip: it was read where it was read.
+fn flip_row(flip: bool, read: TileRow) -> TileRow
+    ensures { λ r. ⌜ r ≡ flipped flip read ⌝ }
+{
+    let colors = read.colors;
+    let seen = mirror(flip, colors);
+    let source = read.source;
+    TileRow {
+        colors: seen,
+        source,
+    }
 }
 
 // Where a map holds the tile of a row of places and a column of tiles.
@@ -124,33 +155,45 @@ pub fn bg_address(lcdc: u8, tile: u8, attribute: BgAttribute, row: u8) -> Addres
     }
 }
 
-// The colours of a tile by its number, its attribute and the row of the map.
-pub fn pattern_of(vram: &[u8], lcdc: u8, tile: u8, attribute: BgAttribute, row: u8) -> [u8; 8]
+// The row of a tile by its number, its attribute and the row of the map.
+pub fn pattern_of(vram: &[u8], lcdc: u8, tile: u8, attribute: BgAttribute, row: u8) -> TileRow
     requires { ⌜ length (now vram) ≡ vramBytes ⌝ }
-    ensures { λ r. ⌜ r ≡ pattern (now (vram .entry)) lcdc tile (attribute .bits) row ⌝ }
+    ensures { λ r. ⌜ r ≡ patternRow (now (vram .entry)) lcdc tile (attribute .bits) row ⌝ }
 {
-    let colors = read_row(vram, bg_address(lcdc, tile, attribute, row));
-    mirror(attribute.is_horizontal_flip(), colors)
+    let read = tile_row(vram, bg_address(lcdc, tile, attribute, row));
+    flip_row(attribute.is_horizontal_flip(), read)
 }
 
-// What a fetch gives: eight colours and the tile's attribute.
+// What the fetcher takes over: eight colours and the tile's attribute.
 pub struct Fetched {
     pub row: [u8; 8],
     pub attribute: BgAttribute,
 }
 
+// What a fetch answers: beside what the fetcher takes over the source of its row. The source ends here: it is for a memory
+// viewer, and no queue, no state and no step's answer has it. A line painter will hand the viewer the source of each place.
+pub struct FetchedRow {
+    pub tile: Fetched,
+    pub source: Source,
+}
+
 // The tile row of a map at a row of places and a column of tiles.
-pub fn fetch_tile(vram: &[u8], lcdc: u8, high: bool, row: u8, column: u8) -> Fetched
+pub fn fetch_tile(vram: &[u8], lcdc: u8, high: bool, row: u8, column: u8) -> FetchedRow
     requires { ⌜ length (now vram) ≡ vramBytes ⌝ }
-    ensures { λ r. ⌜ r ≡ fetchTile (now (vram .entry)) lcdc high row column ⌝ }
+    ensures { λ r. ⌜ r ≡ fetchedTile (now (vram .entry)) lcdc high row column ⌝ }
 {
     let place = map_address(high, row, column);
     let tile = read_vram_banked(vram, 0, place);
     let attribute = BgAttribute::new(read_vram_banked(vram, 1, place));
-    let colors = pattern_of(vram, lcdc, tile, attribute, row);
-    Fetched {
-        row: colors,
-        attribute,
+    let read = pattern_of(vram, lcdc, tile, attribute, row);
+    let colors = read.colors;
+    let source = read.source;
+    FetchedRow {
+        tile: Fetched {
+            row: colors,
+            attribute,
+        },
+        source,
     }
 }
 
@@ -177,19 +220,22 @@ fn is_bg_off(cgb: bool, lcdc: u8) -> bool
     !wrap::bit(lcdc, 0)
 }
 
-fn no_tile() -> Fetched
-    ensures { λ r. ⌜ r ≡ noTile ⌝ }
+fn no_tile() -> FetchedRow
+    ensures { λ r. ⌜ r ≡ nothingFetched ⌝ }
 {
-    Fetched {
-        row: [0; 8],
-        attribute: BgAttribute { bits: 0 },
+    FetchedRow {
+        tile: Fetched {
+            row: [0; 8],
+            attribute: BgAttribute { bits: 0 },
+        },
+        source: Source::NothingRead,
     }
 }
 
-// The tile row of a fetch, in the window or scrolled; eight 0s outside colour mode with LCDC bit 0 clear.
-pub fn fetch_bg(vram: &[u8], f: Fetch) -> Fetched
+// The tile row of a fetch, in the window or scrolled; eight 0s, and nothing read, outside colour mode with LCDC bit 0 clear.
+pub fn fetch_bg(vram: &[u8], f: Fetch) -> FetchedRow
     requires { ⌜ length (now vram) ≡ vramBytes ⌝ }
-    ensures { λ r. ⌜ r ≡ fetchBg (now (vram .entry)) f ⌝ }
+    ensures { λ r. ⌜ r ≡ fetchedRow (now (vram .entry)) f ⌝ }
 {
     if is_bg_off(f.cgb, f.lcdc) {
         return no_tile();
@@ -236,13 +282,13 @@ pub fn sprite_address(sprite: Sprite, line: u8, tall: u8) -> Address
     }
 }
 
-// The eight colours of a sprite in a line.
-pub fn sprite_row(vram: &[u8], sprite: Sprite, line: u8, tall: u8) -> [u8; 8]
+// The row of a sprite in a line.
+pub fn sprite_row(vram: &[u8], sprite: Sprite, line: u8, tall: u8) -> TileRow
     requires { ⌜ (length (now vram) ≡ vramBytes) × (0 < tall) ⌝ }
-    ensures { λ r. ⌜ r ≡ spriteRow (now (vram .entry)) sprite line tall ⌝ }
+    ensures { λ r. ⌜ r ≡ spriteTileRow (now (vram .entry)) sprite line tall ⌝ }
 {
-    let colors = read_row(vram, sprite_address(sprite, line, tall));
-    mirror(sprite.x_flipped(), colors)
+    let read = tile_row(vram, sprite_address(sprite, line, tall));
+    flip_row(sprite.x_flipped(), read)
 }
 
 // Whether a sprite that begins left of the screen starts at column x.
@@ -265,14 +311,18 @@ pub fn starts_at(sprite: Sprite, x: u8) -> bool
     starts_left(sprite, x)
 }
 
-// The colours of a sprite that starts at column x: those left of column 0 are gone.
-pub fn sprite_colors(vram: &[u8], sprite: Sprite, line: u8, tall: u8, x: u8) -> [u8; 8]
+// The row of a sprite that starts at column x: the colours left of column 0 are gone. Its source ends in this answer, as that of
+// a fetch does in `FetchedRow`.
+pub fn sprite_colors(vram: &[u8], sprite: Sprite, line: u8, tall: u8, x: u8) -> TileRow
     requires { ⌜ (length (now vram) ≡ vramBytes) × (0 < tall) ⌝ }
-    ensures { λ r. ⌜ r ≡ spriteColours (now (vram .entry)) sprite line tall x ⌝ }
+    ensures { λ r. ⌜ r ≡ startedRow (now (vram .entry)) sprite line tall x ⌝ }
 {
-    let colors = sprite_row(vram, sprite, line, tall);
+    let mut read = sprite_row(vram, sprite, line, tall);
     if starts_left(sprite, x) {
-        return sprite::move_left(colors, sprite.x);
+        let colors = read.colors;
+        let seen = sprite::move_left(colors, sprite.x);
+        read.colors = seen;
+        return read;
     }
-    colors
+    read
 }

@@ -171,6 +171,17 @@ impl Ppu {
         (row, attribute.bits())
     }
 
+    /// The row at an offset of a bank, read and decoded by the given text.
+    pub fn part_row(&self, bank: u8, offset: u16) -> [u8; 8] {
+        self.get_tile_pattern_from_index(offset, 0, bank)
+    }
+
+    /// The row of two bytes alone, decoded by the given text; they are put at the beginning of VRAM.
+    pub fn part_decode(&mut self, bytes: [u8; 2]) -> [u8; 8] {
+        self.vram[..2].copy_from_slice(&bytes);
+        self.part_row(0, 0)
+    }
+
     /// The colours that the first selected sprite brings into an empty queue at a place, if it starts there.
     pub fn part_sprite_colors(
         &mut self,

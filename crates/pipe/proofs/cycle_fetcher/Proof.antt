@@ -2,6 +2,7 @@
 use Prim.Native.Nat.{_-_}
 use native.Mathlib.Omega.{arith}
 use borrow.Author.Tests.{eq-eqb, ne-eqb}
+use Rattle.tiles.proofs.Sources.{dropped}
 use Rattle.pipe.specs.Fetching.{fetchedPipe}
 use borrow.Author.Needs.{needs}
 use Rattle.pipe.proofs.cycle_fetcher.Statement.{statement}
@@ -29,7 +30,7 @@ returns-2 c =
     let soon = c .before .before in
     let start = soon .before .before in
     let last = eq-eqb (start .before .args .p .fetcher .delay - 1) 0 (omega arith) in
-    rw (last, c .take-row .ensures, c .before .fetch-bg .ensures)
+    rw (last, c .take-row .ensures, c .before .fetch-bg .ensures, dropped .fetch)
 
 pub cycle-fetcher-spec : {M : Type 1} → statement M
 cycle-fetcher-spec =

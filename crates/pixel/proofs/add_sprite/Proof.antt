@@ -5,6 +5,7 @@ use borrow.Author.Tests.{not-true, not-false}
 use borrow.Author.Needs.{needs}
 use Rattle.logic.proofs.Tests.{by-test}
 use Rattle.wrap.specs.Wrap.{bitAt}
+use Rattle.tiles.proofs.Sources.{dropped}
 use Rattle.pixel.specs.Sprites.{tallOf, spriteAdded}
 use Rattle.pixel.proofs.add_sprite.Statement.{statement}
 use Rattle.pixel.proofs.add_sprite.Tie as tie
@@ -39,12 +40,12 @@ returns-2 : tie.Need-returns-2
 unfolding spriteAdded
 returns-2 c =
     let inked = c .before in
-    let coloured = inked .before in
+    let coloured = inked .before .before in
     let measured = coloured .before in
     let left = measured .before in
     let started = left .before .starts-at in
     rw
-    (c .push .ensures, inked .ink-of .ensures, coloured .sprite-colors .ensures, measured .tall-of .ensures, ← started .ensures, not-false (started .result) (left .if1 .left))
+    (c .push .ensures, inked .ink-of .ensures, coloured .sprite-colors .ensures, dropped .start, measured .tall-of .ensures, ← started .ensures, not-false (started .result) (left .if1 .left))
 
 pub add-sprite-spec : {M : Type 1} → statement M
 add-sprite-spec =

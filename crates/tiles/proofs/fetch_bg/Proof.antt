@@ -3,7 +3,7 @@ use mathlib.Core.Path.{_≡_}
 use Prim.Native.Nat.{_+_, _/_, _%_}
 use native.Mathlib.Omega.{arith}
 use borrow.Author.Needs.{needs}
-use Rattle.tiles.specs.Map.{fetchBg}
+use Rattle.tiles.specs.Sources.{fetchedRow}
 use Rattle.tiles.proofs.fetch_bg.Statement.{statement}
 use Rattle.tiles.proofs.fetch_bg.Tie as tie
 
@@ -14,7 +14,7 @@ no-tile-requires : tie.Need-no-tile-requires
 no-tile-requires c κs = search needs
 
 returns : tie.Need-returns
-unfolding fetchBg
+unfolding fetchedRow
 returns c = rw (← c .before .before .is-bg-off .ensures, c .before .if1 .taken, c .no-tile .ensures)
 
 bit-requires : tie.Need-bit-requires
@@ -24,7 +24,7 @@ fetch-tile-requires : tie.Need-fetch-tile-requires
 fetch-tile-requires c κs = search needs
 
 returns-2 : tie.Need-returns-2
-unfolding fetchBg
+unfolding fetchedRow
 returns-2 c =
     let b = c .before .before in
     rw (← b .before .before .is-bg-off .ensures, b .before .if1 .left, b .if2 .taken, c .fetch-tile .ensures, c .before .bit .ensures)
@@ -51,7 +51,7 @@ fetch-tile-requires-2 : tie.Need-fetch-tile-requires-2
 fetch-tile-requires-2 c κs = search needs
 
 returns-3 : tie.Need-returns-3
-unfolding fetchBg
+unfolding fetchedRow
 returns-3 c =
     let row = c .before .before in
     let added = row .before .before in

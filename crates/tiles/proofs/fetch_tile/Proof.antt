@@ -1,18 +1,18 @@
 -- `tiles::fetch_tile` meets its contract.
 use mathlib.Core.Path.{_≡_, ap, _∙_}
-use mathlib.Core.List.{List}
 use Prim.Native.Nat.{ℕ}
 use borrow.Author.Needs.{needs}
 use Rattle.bg_attribs.specs.declared.BgAttribute.{BgAttribute}
-use Rattle.tiles.specs.declared.Fetched.{Fetched}
+use Rattle.tiles.specs.Sources.{attributed}
+use Rattle.tiles.specs.declared.TileRow.{TileRow}
+use Rattle.tiles.specs.declared.FetchedRow.{FetchedRow}
 use Rattle.tiles.proofs.fetch_tile.Statement.{statement}
 use Rattle.tiles.proofs.fetch_tile.Tie as tie
 
 -- a row and an attribute, each by what is known of it
-fetched-of : {row row′ : List ℕ} {a : BgAttribute} {bits : ℕ} → row ≡ row′ → a .bits ≡ bits
-    → _≡_ {A = Fetched} (record { row = row; attribute = a }) (record { row = row′; attribute = record { bits = bits } })
-fetched-of {row} {row′} {a} {bits} e f =
-    ap (λ (l : List ℕ). record { row = l; attribute = a }) e ∙ ap (λ (n : ℕ). record { row = row′; attribute = record { bits = n } }) f
+fetched-of : {t t′ : TileRow} {a : BgAttribute} {bits : ℕ} → t ≡ t′ → a .bits ≡ bits
+    → _≡_ {A = FetchedRow} (record { tile = record { row = t .colors; attribute = a }; source = t .source }) (attributed bits t′)
+fetched-of {t} {t′} {a} {bits} e f = ap (attributed (a .bits)) e ∙ ap (λ (n : ℕ). attributed n t′) f
 
 map-address-requires : tie.Need-map-address-requires
 map-address-requires c κs = search needs
@@ -31,10 +31,11 @@ pattern-of-requires c κs = search needs
 
 returns : tie.Need-returns
 returns c =
-    let b = c .before .before in
+    let p = c .before in
+    let b = p .before .before in
     let place = b .before .before .map-address .ensures in
-    let bits = simp (b .read-vram-banked2 .ensures, place) at (c .before .new .ensures) in
-    fetched-of (simp (c .pattern-of .ensures, bits, b .before .read-vram-banked .ensures, place)) bits
+    let bits = simp (b .read-vram-banked2 .ensures, place) at (p .before .new .ensures) in
+    fetched-of (simp (p .pattern-of .ensures, bits, b .before .read-vram-banked .ensures, place)) bits
 
 pub fetch-tile-spec : {M : Type 1} → statement M
 fetch-tile-spec =
