@@ -12,35 +12,34 @@ use Rattle.bg_attribs.specs.Attribute.{xFlip}
 use Rattle.sprite.specs.declared.Sprite.{Sprite}
 use Rattle.tiles.specs.Tile.{byteAt, inBank, rowAt, mirrored, tileAddress}
 use Rattle.tiles.specs.Map.{pattern, bgOff, fetchBg}
-use Rattle.tiles.specs.Objects.{spriteAddress, spriteRow, startsLeft, spriteColours}
+use Rattle.tiles.specs.Objects.{spriteRow, spriteColours}
 use Rattle.tiles.specs.Sources.{patternRow, fetchedAt, nothingFetched, fetchedRow, spriteTileRow, startedRow}
 use Rattle.tiles.specs.Laws.{Dropped, Inside, sideBySide, Told, TrueFetch, madeBy, TrueStart, wasRead, SourcesTrue}
 use Rattle.tiles.specs.declared.Address.{Address}
 use Rattle.tiles.specs.declared.Source.the-variants.{ReadAt}
-use Rattle.tiles.specs.declared.TileRow.{TileRow}
 use Rattle.tiles.specs.declared.Fetch.{Fetch}
 use Rattle.tiles.specs.declared.FetchedRow.{FetchedRow}
 
--- what is seen of a choice is the choice of what is seen
-seen-of : {A B : Type 0} (seen : A → B) (v : Bool) (x y : A) → seen (cond v x y) ≡ cond v (seen x) (seen y)
-seen-of seen true x y = refl
-seen-of seen false x y = refl
+-- without its source a choice of fetches is the choice without
+tile-of : (v : Bool) (x y : FetchedRow) → cond v x y .tile ≡ cond v (x .tile) (y .tile)
+tile-of true x y = refl
+tile-of false x y = refl
 
 drop-tile : (vram : List ℕ) (lcdc number bits row : ℕ) → patternRow vram lcdc number bits row .colors ≡ pattern vram lcdc number bits row
-unfolding patternRow pattern
+unfolding patternRow
 drop-tile vram lcdc number bits row = refl
 
 drop-fetch : (vram : List ℕ) (f : Fetch) → fetchedRow vram f .tile ≡ fetchBg vram f
 unfolding fetchedRow fetchBg
-drop-fetch vram f = simp (seen-of (λ (t : FetchedRow). t .tile), drop-tile)
+drop-fetch vram f = simp tile-of
 
 drop-sprite : (vram : List ℕ) (s : Sprite) (line tall : ℕ) → spriteTileRow vram s line tall .colors ≡ spriteRow vram s line tall
-unfolding spriteTileRow spriteRow
+unfolding spriteTileRow
 drop-sprite vram s line tall = refl
 
 drop-start : (vram : List ℕ) (s : Sprite) (line tall x : ℕ) → startedRow vram s line tall x .colors ≡ spriteColours vram s line tall x
-unfolding startedRow spriteColours
-drop-start vram s line tall x = simp (seen-of (λ (t : TileRow). t .colors), drop-sprite)
+unfolding startedRow
+drop-start vram s line tall x = refl
 
 pub dropped : Dropped
 dropped =
@@ -78,7 +77,7 @@ tile-even lcdc tile line =
     (λ signed. by-test (λ n. (n + 2 * line) % 2 ≡ 0) (ltb tile 128) (λ low. omega arith) (λ high. omega arith))
 
 true-at : (vram : List ℕ) (lcdc address row : ℕ) → TrueFetch vram (fetchedAt vram lcdc address row)
-unfolding patternRow
+unfolding patternRow pattern
 true-at vram lcdc address row =
     told vram (mirrored (xFlip (byteAt vram 1 address))) (byteAt vram 1 address) _ (tile-even lcdc (byteAt vram 0 address) _)
 
@@ -99,22 +98,13 @@ fetch-reads : (vram : List ℕ) (f : Fetch) → wasRead (fetchedRow vram f .sour
 unfolding fetchedRow patternRow
 fetch-reads vram f = reads-of (bgOff (f .cgb) (f .lcdc)) (f .window) _ _ refl refl
 
-module _ (vram : List ℕ) (s : Sprite) (line tall x : ℕ) where
-  -- where the row of a sprite's start was read, and what was made of it
-  start-source : startedRow vram s line tall x .source ≡ ReadAt (spriteAddress s line tall)
-  unfolding startedRow spriteTileRow
-  start-source =
-      by-test (λ (t : TileRow). t .source ≡ ReadAt (spriteAddress s line tall)) (startsLeft s x) (λ left. refl) (λ within. refl)
+true-start : (vram : List ℕ) (s : Sprite) (line tall x : ℕ) → TrueStart vram s x (startedRow vram s line tall x)
+unfolding startedRow spriteColours spriteRow
+true-start vram s line tall x = told vram (madeBy s x) (s .flags) _ (omega arith)
 
-  start-colours : startedRow vram s line tall x .colors ≡ madeBy s x (rowAt vram (spriteAddress s line tall))
-  unfolding startedRow spriteTileRow
-  start-colours = seen-of (λ (t : TileRow). t .colors) (startsLeft s x) _ _
-
-  true-start : TrueStart vram s x (startedRow vram s line tall x)
-  true-start = rw (start-colours, start-source) (told vram (madeBy s x) (s .flags) _ (omega arith))
-
-  start-reads : wasRead (startedRow vram s line tall x .source) ≡ true
-  start-reads = rw start-source
+start-reads : (vram : List ℕ) (s : Sprite) (line tall x : ℕ) → wasRead (startedRow vram s line tall x .source) ≡ true
+unfolding startedRow
+start-reads vram s line tall x = refl
 
 pub sources-true : SourcesTrue
 sources-true = record { fetch = true-fetch; fetchReads = fetch-reads; start = true-start; startReads = start-reads }

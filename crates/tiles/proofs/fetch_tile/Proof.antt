@@ -3,16 +3,19 @@ use mathlib.Core.Path.{_≡_, ap, _∙_}
 use Prim.Native.Nat.{ℕ}
 use borrow.Author.Needs.{needs}
 use Rattle.bg_attribs.specs.declared.BgAttribute.{BgAttribute}
-use Rattle.tiles.specs.Sources.{attributed}
+use Rattle.tiles.specs.Sources.{patternRow}
 use Rattle.tiles.specs.declared.TileRow.{TileRow}
 use Rattle.tiles.specs.declared.FetchedRow.{FetchedRow}
 use Rattle.tiles.proofs.fetch_tile.Statement.{statement}
 use Rattle.tiles.proofs.fetch_tile.Tie as tie
 
--- a row and an attribute, each by what is known of it
-fetched-of : {t t′ : TileRow} {a : BgAttribute} {bits : ℕ} → t ≡ t′ → a .bits ≡ bits
-    → _≡_ {A = FetchedRow} (record { tile = record { row = t .colors; attribute = a }; source = t .source }) (attributed bits t′)
-fetched-of {t} {t′} {a} {bits} e f = ap (attributed (a .bits)) e ∙ ap (λ (n : ℕ). attributed n t′) f
+-- what a fetch makes of a row and an attribute
+abbrev made : BgAttribute → TileRow → FetchedRow
+made a t = record { tile = record { row = t .colors; attribute = a }; source = t .source }
+
+-- each by what is known of it
+made-of : {t t′ : TileRow} {a : BgAttribute} {bits : ℕ} → t ≡ t′ → a .bits ≡ bits → made a t ≡ made (record { bits = bits }) t′
+made-of {t} {t′} {a} {bits} e f = ap (made a) e ∙ ap (λ (n : ℕ). made (record { bits = n }) t′) f
 
 map-address-requires : tie.Need-map-address-requires
 map-address-requires c κs = search needs
@@ -30,12 +33,13 @@ pattern-of-requires : tie.Need-pattern-of-requires
 pattern-of-requires c κs = search needs
 
 returns : tie.Need-returns
+unfolding patternRow
 returns c =
     let p = c .before in
     let b = p .before .before in
     let place = b .before .before .map-address .ensures in
     let bits = simp (b .read-vram-banked2 .ensures, place) at (p .before .new .ensures) in
-    fetched-of (simp (p .pattern-of .ensures, bits, b .before .read-vram-banked .ensures, place)) bits
+    made-of (simp (p .pattern-of .ensures, bits, b .before .read-vram-banked .ensures, place)) bits
 
 pub fetch-tile-spec : {M : Type 1} → statement M
 fetch-tile-spec =

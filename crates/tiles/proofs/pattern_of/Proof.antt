@@ -1,5 +1,6 @@
 -- `tiles::pattern_of` meets its contract.
 use borrow.Author.Needs.{needs}
+use Rattle.tiles.specs.Map.{pattern}
 use Rattle.tiles.specs.Sources.{patternRow}
 use Rattle.tiles.proofs.Rows.{in-bank}
 use Rattle.tiles.proofs.pattern_of.Statement.{statement}
@@ -20,7 +21,7 @@ flip-row-requires : tie.Need-flip-row-requires
 flip-row-requires c κs = search needs
 
 returns : tie.Need-returns
-unfolding patternRow
+unfolding patternRow pattern
 returns c =
     let read = c .before .before in
     rw (c .flip-row .ensures, c .before .is-horizontal-flip .ensures, read .tile-row .ensures, read .before .bg-address .ensures)

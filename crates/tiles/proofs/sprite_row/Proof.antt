@@ -1,5 +1,6 @@
 -- `tiles::sprite_row` meets its contract.
 use borrow.Author.Needs.{needs}
+use Rattle.tiles.specs.Objects.{spriteRow}
 use Rattle.tiles.specs.Sources.{spriteTileRow}
 use Rattle.tiles.proofs.Rows.{in-bank}
 use Rattle.tiles.proofs.sprite_row.Statement.{statement}
@@ -20,7 +21,7 @@ flip-row-requires : tie.Need-flip-row-requires
 flip-row-requires c κs = search needs
 
 returns : tie.Need-returns
-unfolding spriteTileRow
+unfolding spriteTileRow spriteRow
 returns c =
     let read = c .before .before in
     rw (c .flip-row .ensures, c .before .x-flipped .ensures, read .tile-row .ensures, read .before .sprite-address .ensures)
