@@ -33,7 +33,10 @@ impl Decoder {
         match source {
             Source::ReadAt(address) => {
                 let at = place(address);
-                self.0.borrow_mut().ppu.part_decode([vram[at], vram[at + 1]])
+                self.0
+                    .borrow_mut()
+                    .ppu
+                    .part_decode([vram[at], vram[at + 1]])
             }
             Source::NothingRead => [0; 8],
         }
@@ -70,8 +73,8 @@ fn opposite(colors: [u8; 8], source: Source) -> [u8; 8] {
 
 /// Whether the place of the map that a fetch looks at has a byte of the row.
 fn is_own_map(f: Fetch, source: Source) -> bool {
-    let high = f.lcdc & 0x40 != 0;
-    let map = if high { 0x9C00 } else { 0x9800 } + f.wrow as u16 / 8 * 32 + f.column as u16;
+    let base = if f.lcdc & 0x40 != 0 { 0x9C00 } else { 0x9800 };
+    let map = base + f.wrow as u16 / 8 * 32 + f.column as u16;
     match source {
         Source::ReadAt(address) => f.window && map % 8192 / 2 == address.offset / 2,
         Source::NothingRead => false,
