@@ -132,6 +132,7 @@ pub fn cycle_fetcher(vram: &[u8], r: Registers, line: u8, p: Pipe) -> Pipe
         wrow: p.wrow,
         column: p.fetcher.column,
     };
+    // the row's source goes no further
     let fetched = tiles::fetch_bg(vram, fetch);
     let fetcher = take_row(p.fetcher, fetched.tile);
     n.fetcher = fetcher;

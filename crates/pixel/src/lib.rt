@@ -66,6 +66,7 @@ pub fn add_sprite(
     if !tiles::starts_at(s.sprite, at.x) {
         return q;
     }
+    // the row's source goes no further
     let row = tiles::sprite_colors(vram, s.sprite, at.line, tall_of(r.lcdc), at.x);
     let colors = row.colors;
     let ink = ink_of(r, palettes, s);
