@@ -1,4 +1,5 @@
 // The beam goes on: the cycle, the line, the frame, and what a swap answers.
+#![tactic(auto)]
 ghost use Rattle.std.specs.Prelude.{◌≡◌, ◌<◌, ◌≤◌, ◌+◌};
 ghost use Rattle.hardware.specs.Screen.{line_cycles, frame_lines};
 ghost use Rattle.beam.specs.Advance.{swaps, onward, next_line, next_frame, advanced_beam, advanced_registers, whole};
@@ -8,7 +9,7 @@ use hardware::Machine;
 use state::{Beam, Registers};
 
 // The mark of a picture: not whole; whole; whole, but the first after a blanking, which the screen does not show.
-#[derive(Drop)]
+#[derive(Clone, Copy)]
 pub enum Mark {
     No,
     Whole,

@@ -7,6 +7,8 @@ use captures::{Bytes, Call};
 use hardware::Machine;
 use ppu::Answer;
 use state::State;
+use std::io::Write;
+use std::rt::Files;
 
 // Steps after which the desk looks up, and steps after which it says how far it is.
 const PART: u32 = 262_144;
@@ -14,7 +16,7 @@ const PART: u32 = 262_144;
 const SAID_EVERY: u64 = 2_097_152;
 
 // How many pictures there are, by their marks.
-#[derive(Drop)]
+#[derive(Clone, Copy)]
 pub struct Tally {
     pub pictures: u32,
     pub whole: u32,
@@ -23,7 +25,7 @@ pub struct Tally {
 }
 
 // How many steps asked for an interrupt, by its kind.
-#[derive(Drop)]
+#[derive(Clone, Copy)]
 pub struct Seen {
     pub vblanks: u64,
     pub stats: u64,
@@ -31,7 +33,7 @@ pub struct Seen {
 
 // The state of the unit, whether it was started, what was seen since the last picture, the pictures, and the steps since it was last
 // said how far the capture is.
-#[derive(Drop)]
+#[derive(Clone, Copy)]
 pub struct Desk {
     pub state: State,
     pub started: bool,
@@ -42,7 +44,7 @@ pub struct Desk {
 
 // What became of a call: it was made; it was refused, by its number; it came before the start, or is a second start; a picture could
 // not be filed, and why has been said; one that was filed could not be told of; there are more pictures than numbers for them.
-#[derive(Drop)]
+#[derive(Clone, Copy)]
 pub enum Outcome {
     Done,
     Refused(u8),
@@ -53,14 +55,14 @@ pub enum Outcome {
     TooMany,
 }
 
-#[derive(Drop)]
+#[derive(Clone, Copy)]
 pub struct Acted {
     pub desk: Desk,
     pub outcome: Outcome,
 }
 
 // Why steps came to an end: all were taken, one swapped with a mark and so many places stored, one was refused.
-#[derive(Drop)]
+#[derive(Clone, Copy)]
 enum End {
     AllTaken,
     Swapped(Mark, u16),
@@ -68,7 +70,7 @@ enum End {
 }
 
 // The state after some steps, how many are left, what was seen, and why they ended.
-#[derive(Drop)]
+#[derive(Clone, Copy)]
 struct Drawn {
     state: State,
     left: u32,
@@ -219,22 +221,23 @@ fn answered(desk: Desk, number: u8, state: State) -> Acted {
 }
 
 // Tells of a picture that was filed, on standard output and on the page; where it cannot, says why.
-fn tell(page: i32, number: u32, mark: Mark, stored: u16, seen: Seen) -> bool {
+fn tell(
+    rt: &(impl Print + Eprint),
+    page: &mut impl Write,
+    number: u32,
+    mark: Mark,
+    stored: u16,
+    seen: Seen,
+) -> bool {
     let mut name = [0u8; 32];
     let length = filing::name_of(number, mark, &mut name);
-    if !say::picture(
-        number,
-        mark,
-        stored,
-        seen.vblanks,
-        seen.stats,
-        &name[..length],
-    ) {
-        os::fail(b"standard output");
+    let name = &name[..length];
+    if let Err(why) = say::picture(rt, number, mark, stored, seen.vblanks, seen.stats, name) {
+        say::failed(rt, "standard output", why);
         return false;
     }
-    if !page::picture(page, number, mark, stored, &name[..length]) {
-        os::fail(b"index.html");
+    if let Err(why) = page::picture(page, number, mark, stored, name) {
+        say::failed(rt, "index.html", why);
         return false;
     }
     true
@@ -242,27 +245,29 @@ fn tell(page: i32, number: u32, mark: Mark, stored: u16, seen: Seen) -> bool {
 
 // Files the picture that the unit shows.
 fn file_shown<'a>(
+    rt: &(impl Files + Eprint),
     state: State,
     a: &'a [u8],
     b: &'a [u8],
-    folder: &[u8],
+    folder: &str,
     capture: &[u8],
     number: u32,
     mark: Mark,
     stored: u16,
 ) -> bool {
     let picture = ppu::screen_buffer(state, a, b);
-    shelf::file_picture(folder, capture, picture, number, mark, stored)
+    shelf::file_picture(rt, folder, capture, picture, number, mark, stored)
 }
 
 // Files the picture that is shown after a swap, and tells of it.
 fn file<'a>(
+    rt: &(impl Files + Print + Eprint),
     desk: Desk,
     a: &'a [u8; Machine::PICTURE_BYTES],
     b: &'a [u8; Machine::PICTURE_BYTES],
-    folder: &[u8],
+    folder: &str,
     capture: &[u8],
-    page: i32,
+    page: &mut impl Write,
     mark: Mark,
     stored: u16,
 ) -> Acted {
@@ -272,6 +277,7 @@ fn file<'a>(
     let tally = counted(desk.tally, mark);
     let seen = desk.seen;
     if !file_shown(
+        rt,
         desk.state,
         a,
         b,
@@ -283,7 +289,7 @@ fn file<'a>(
     ) {
         return with(desk, Outcome::NotFiled);
     }
-    if !tell(page, tally.pictures, mark, stored, seen) {
+    if !tell(rt, page, tally.pictures, mark, stored, seen) {
         return with(desk, Outcome::NotTold);
     }
     let mut next = desk;
@@ -294,27 +300,28 @@ fn file<'a>(
 
 // What steps came to: a picture where one swapped.
 fn ended<'a>(
+    rt: &(impl Files + Print + Eprint),
     desk: Desk,
     end: End,
     a: &'a [u8; Machine::PICTURE_BYTES],
     b: &'a [u8; Machine::PICTURE_BYTES],
-    folder: &[u8],
+    folder: &str,
     capture: &[u8],
-    page: i32,
+    page: &mut impl Write,
 ) -> Acted {
     match end {
         End::AllTaken => with(desk, Outcome::Done),
         End::Refused(number) => with(desk, Outcome::Refused(number)),
-        End::Swapped(mark, stored) => file(desk, a, b, folder, capture, page, mark, stored),
+        End::Swapped(mark, stored) => file(rt, desk, a, b, folder, capture, page, mark, stored),
     }
 }
 
 // How long it was silent after so many steps more: where that is long, it is said how far the capture is.
-fn silence(silent: u64, steps: u32, line: u64, pictures: u32) -> u64 {
+fn silence(rt: &impl Eprint, silent: u64, steps: u32, line: u64, pictures: u32) -> u64 {
     if silent < SAID_EVERY {
         return silent + steps as u64;
     }
-    say::progress(line, pictures);
+    say::progress(rt, line, pictures);
     0
 }
 
@@ -326,14 +333,15 @@ fn least(a: u32, b: u32) -> u32
 
 // Steps in parts, a picture at every swap, up to the first that is refused or whose picture cannot be filed.
 fn step(
+    rt: &(impl Files + Print + Eprint),
     start: Desk,
     vram: &[u8; Machine::VRAM_BYTES],
     oam: &[u8; Machine::OAM_BYTES],
     a: &mut [u8; Machine::PICTURE_BYTES],
     b: &mut [u8; Machine::PICTURE_BYTES],
-    folder: &[u8],
+    folder: &str,
     capture: &[u8],
-    page: i32,
+    page: &mut impl Write,
     line: u64,
     cycles: u8,
     times: u32,
@@ -350,8 +358,8 @@ fn step(
         left -= taken;
         desk.state = state;
         desk.seen = seen;
-        desk.silent = silence(desk.silent, taken, line, desk.tally.pictures);
-        let acted = ended(desk, end, a, b, folder, capture, page);
+        desk.silent = silence(rt, desk.silent, taken, line, desk.tally.pictures);
+        let acted = ended(rt, desk, end, a, b, folder, capture, page);
         let outcome = acted.outcome;
         desk = acted.desk;
         if !is_done(outcome) {
@@ -412,7 +420,7 @@ fn write_once(
         if answer.number != 0 {
             return answered(desk, answer.number, state);
         }
-        at = std::num::wrapping_add_u16(at, 1);
+        at = at.wrapping_add(1);
     }
     answered(desk, 0, state)
 }
@@ -435,7 +443,7 @@ fn write_bytes(
         if !is_done(outcome) {
             return Acted { desk, outcome };
         }
-        at = std::num::wrapping_add_u16(at, bytes.count as u16);
+        at = at.wrapping_add(bytes.count as u16);
         left -= 1;
     }
     with(desk, Outcome::Done)
@@ -463,14 +471,15 @@ fn start(
 
 // A call that comes after the start.
 fn go_on(
+    rt: &(impl Files + Print + Eprint),
     desk: Desk,
     vram: &mut [u8; Machine::VRAM_BYTES],
     oam: &mut [u8; Machine::OAM_BYTES],
     a: &mut [u8; Machine::PICTURE_BYTES],
     b: &mut [u8; Machine::PICTURE_BYTES],
-    folder: &[u8],
+    folder: &str,
     capture: &[u8],
-    page: i32,
+    page: &mut impl Write,
     line: u64,
     call: Call,
 ) -> Acted {
@@ -483,7 +492,7 @@ fn go_on(
         Call::Vram(bytes) => write_bytes(desk, vram, oam, true, bytes),
         Call::Oam(bytes) => write_bytes(desk, vram, oam, false, bytes),
         Call::Step { cycles, times } => step(
-            desk, vram, oam, a, b, folder, capture, page, line, cycles, times,
+            rt, desk, vram, oam, a, b, folder, capture, page, line, cycles, times,
         ),
         Call::Corrupt { kind } => {
             let answer = ppu::oam_bug(desk.state, oam, kind);
@@ -506,19 +515,20 @@ fn is_start(call: Call) -> bool {
 
 // A call of the capture. The first is a start, and no other is.
 pub fn act(
+    rt: &(impl Files + Print + Eprint),
     desk: Desk,
     vram: &mut [u8; Machine::VRAM_BYTES],
     oam: &mut [u8; Machine::OAM_BYTES],
     a: &mut [u8; Machine::PICTURE_BYTES],
     b: &mut [u8; Machine::PICTURE_BYTES],
-    folder: &[u8],
+    folder: &str,
     capture: &[u8],
-    page: i32,
+    page: &mut impl Write,
     line: u64,
     call: Call,
 ) -> Acted {
     if !desk.started && !is_start(call) {
         return with(desk, Outcome::NotStarted);
     }
-    go_on(desk, vram, oam, a, b, folder, capture, page, line, call)
+    go_on(rt, desk, vram, oam, a, b, folder, capture, page, line, call)
 }

@@ -5,12 +5,14 @@ use crate::desk::{Desk, Outcome};
 use crate::{desk, say};
 use captures::{Call, Line};
 use hardware::Machine;
+use std::io::{Read, Write};
+use std::rt::Files;
 
 // The longest line.
 pub const LINE_BYTES: usize = 1000;
 
 // Whether there may be more lines, the capture was drawn to its end, or something stopped it.
-#[derive(Drop)]
+#[derive(Clone, Copy)]
 pub enum Going {
     On,
     Ended,
@@ -19,7 +21,7 @@ pub enum Going {
 
 // How far a capture is: the desk, the number of the line, how many bytes of it are held (one more than a line has where it is too
 // long), and how it goes on.
-#[derive(Drop)]
+#[derive(Clone, Copy)]
 pub struct Reading {
     pub desk: Desk,
     pub line: u64,
@@ -28,7 +30,7 @@ pub struct Reading {
 }
 
 // Where a chunk was read to, how many bytes are held, and whether a line ended there.
-#[derive(Drop)]
+#[derive(Clone, Copy)]
 struct Taken {
     at: usize,
     held: usize,
@@ -67,46 +69,52 @@ fn take_line(chunk: &[u8], from: usize, text: &mut [u8; LINE_BYTES], before: usi
 }
 
 // Says what became of a call that was not made, after the place in the capture.
-fn say_outcome(outcome: Outcome, call: Call) {
+fn say_outcome(rt: &impl Eprint, outcome: Outcome, call: Call) {
     match outcome {
         Outcome::Done => {}
         Outcome::Refused(number) => {
-            say::refusal(number);
-            say::call(call);
+            say::refusal(rt, number);
+            say::call(rt, call);
         }
         Outcome::NotStarted => say::error(
-            b"a capture begins with its start, as start cgb colour\n",
+            rt,
+            "a capture begins with its start, as start cgb colour\n",
         ),
         Outcome::StartedAgain => say::error(
-            b"a second start: a capture has one, at its beginning\n",
+            rt,
+            "a second start: a capture has one, at its beginning\n",
         ),
-        Outcome::NotFiled => say::error(b"a picture could not be filed\n"),
-        Outcome::NotTold => say::error(b"a picture was filed, and its line could not be written\n"),
-        Outcome::TooMany => say::error(b"more than 999999 pictures\n"),
+        Outcome::NotFiled => say::error(rt, "a picture could not be filed\n"),
+        Outcome::NotTold => say::error(
+            rt,
+            "a picture was filed, and its line could not be written\n",
+        ),
+        Outcome::TooMany => say::error(rt, "more than 999999 pictures\n"),
     }
 }
 
 // Makes the call of a line.
 fn make(
+    rt: &(impl Files + Print + Eprint),
     desk: Desk,
     vram: &mut [u8; Machine::VRAM_BYTES],
     oam: &mut [u8; Machine::OAM_BYTES],
     a: &mut [u8; Machine::PICTURE_BYTES],
     b: &mut [u8; Machine::PICTURE_BYTES],
-    path: &[u8],
-    folder: &[u8],
+    path: &str,
+    folder: &str,
     capture: &[u8],
-    page: i32,
+    page: &mut impl Write,
     line: u64,
     call: Call,
 ) -> Reading {
-    let acted = desk::act(desk, vram, oam, a, b, folder, capture, page, line, call);
+    let acted = desk::act(rt, desk, vram, oam, a, b, folder, capture, page, line, call);
     let outcome = acted.outcome;
     if desk::is_done(outcome) {
         return onward(acted.desk, line, Going::On);
     }
-    say::place(path, line);
-    say_outcome(outcome, call);
+    say::place(rt, path, line);
+    say_outcome(rt, outcome, call);
     onward(acted.desk, line, Going::Stopped)
 }
 
@@ -122,22 +130,23 @@ fn onward(desk: Desk, line: u64, going: Going) -> Reading {
 
 // Takes a whole line.
 fn take_whole(
+    rt: &(impl Files + Print + Eprint),
     desk: Desk,
     vram: &mut [u8; Machine::VRAM_BYTES],
     oam: &mut [u8; Machine::OAM_BYTES],
     a: &mut [u8; Machine::PICTURE_BYTES],
     b: &mut [u8; Machine::PICTURE_BYTES],
-    path: &[u8],
-    folder: &[u8],
+    path: &str,
+    folder: &str,
     capture: &[u8],
-    page: i32,
+    page: &mut impl Write,
     line: u64,
     text: &[u8; LINE_BYTES],
     held: usize,
 ) -> Reading {
     if held > LINE_BYTES {
-        say::place(path, line);
-        say::error(b"a line has at most 1000 bytes\n");
+        say::place(rt, path, line);
+        say::error(rt, "a line has at most 1000 bytes\n");
         return onward(desk, line, Going::Stopped);
     }
     let all = &text[..];
@@ -145,11 +154,11 @@ fn take_whole(
     match read {
         Line::Nothing => onward(desk, line, Going::On),
         Line::Call(call) => make(
-            desk, vram, oam, a, b, path, folder, capture, page, line, call,
+            rt, desk, vram, oam, a, b, path, folder, capture, page, line, call,
         ),
         Line::Error(reason) => {
-            say::place(path, line);
-            say::reason(reason);
+            say::place(rt, path, line);
+            say::reason(rt, reason);
             onward(desk, line, Going::Stopped)
         }
     }
@@ -166,15 +175,16 @@ pub fn goes_on(going: Going) -> bool {
 
 // Takes a chunk of the capture, line by line. The last may go on in the next chunk.
 fn take_chunk(
+    rt: &(impl Files + Print + Eprint),
     start: Reading,
     vram: &mut [u8; Machine::VRAM_BYTES],
     oam: &mut [u8; Machine::OAM_BYTES],
     a: &mut [u8; Machine::PICTURE_BYTES],
     b: &mut [u8; Machine::PICTURE_BYTES],
-    path: &[u8],
-    folder: &[u8],
+    path: &str,
+    folder: &str,
     capture: &[u8],
-    page: i32,
+    page: &mut impl Write,
     text: &mut [u8; LINE_BYTES],
     chunk: &[u8],
 ) -> Reading {
@@ -186,6 +196,7 @@ fn take_chunk(
         reading.held = taken.held;
         if taken.ended {
             reading = take_whole(
+                rt,
                 reading.desk,
                 vram,
                 oam,
@@ -211,18 +222,20 @@ fn take_chunk(
 
 // The end of a capture: its last line may lack a line's end.
 fn take_last(
+    rt: &(impl Files + Print + Eprint),
     reading: Reading,
     vram: &mut [u8; Machine::VRAM_BYTES],
     oam: &mut [u8; Machine::OAM_BYTES],
     a: &mut [u8; Machine::PICTURE_BYTES],
     b: &mut [u8; Machine::PICTURE_BYTES],
-    path: &[u8],
-    folder: &[u8],
+    path: &str,
+    folder: &str,
     capture: &[u8],
-    page: i32,
+    page: &mut impl Write,
     text: &[u8; LINE_BYTES],
 ) -> Reading {
     let last = take_whole(
+        rt,
         reading.desk,
         vram,
         oam,
@@ -245,68 +258,69 @@ fn take_last(
 
 // Reads a chunk of the capture and takes it.
 fn turn(
+    rt: &(impl Files + Print + Eprint),
     reading: Reading,
     vram: &mut [u8; Machine::VRAM_BYTES],
     oam: &mut [u8; Machine::OAM_BYTES],
     a: &mut [u8; Machine::PICTURE_BYTES],
     b: &mut [u8; Machine::PICTURE_BYTES],
-    path: &[u8],
-    folder: &[u8],
+    path: &str,
+    folder: &str,
     capture: &[u8],
-    page: i32,
+    page: &mut impl Write,
     text: &mut [u8; LINE_BYTES],
-    fd: i32,
+    source: &mut impl Read,
 ) -> Reading {
-    let mut chunk = io::large_buffer();
-    let got = libc::read(fd, &mut chunk);
-    if got < 0 {
-        os::fail(path);
-        return onward(reading.desk, reading.line, Going::Stopped);
+    let mut chunk = [0u8; 65536];
+    match source.read(&mut chunk) {
+        Ok(0) => take_last(
+            rt, reading, vram, oam, a, b, path, folder, capture, page, text,
+        ),
+        Ok(n) => take_chunk(
+            rt,
+            reading,
+            vram,
+            oam,
+            a,
+            b,
+            path,
+            folder,
+            capture,
+            page,
+            text,
+            &chunk[..n],
+        ),
+        Err(why) => {
+            say::failed(rt, path, why);
+            onward(reading.desk, reading.line, Going::Stopped)
+        }
     }
-    if got == 0 {
-        return take_last(reading, vram, oam, a, b, path, folder, capture, page, text);
-    }
-    let n = io::count(got, &chunk);
-    take_chunk(
-        reading,
-        vram,
-        oam,
-        a,
-        b,
-        path,
-        folder,
-        capture,
-        page,
-        text,
-        &chunk[..n],
-    )
 }
 
-// Draws a capture. Nothing says that a file ends, so the turns are counted down from a number that no run uses up.
+// Draws a capture. Nothing says that a file ends, so the turns are counted up to a number that no run comes to.
 pub fn run(
+    rt: &(impl Files + Print + Eprint),
     vram: &mut [u8; Machine::VRAM_BYTES],
     oam: &mut [u8; Machine::OAM_BYTES],
     a: &mut [u8; Machine::PICTURE_BYTES],
     b: &mut [u8; Machine::PICTURE_BYTES],
-    path: &[u8],
-    folder: &[u8],
+    path: &str,
+    folder: &str,
     capture: &[u8],
-    page: i32,
-    fd: i32,
+    page: &mut impl Write,
+    source: &mut impl Read,
 ) -> Reading {
     let mut text = [0u8; LINE_BYTES];
     let desk = desk::fresh(vram, oam, a, b);
     let mut reading = onward(desk, 1, Going::On);
-    let mut turns = u64::MAX;
-    while turns > 0 {
+    for _ in 0..u64::MAX {
         reading = turn(
-            reading, vram, oam, a, b, path, folder, capture, page, &mut text, fd,
+            rt, reading, vram, oam, a, b, path, folder, capture, page, &mut text, source,
         );
         let going = reading.going;
         if !goes_on(going) {
             return reading;
         }
-        turns -= 1;
     }
     reading
 }

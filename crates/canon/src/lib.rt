@@ -1,4 +1,6 @@
 // The digest of a state: its bytes in a fixed order, words low byte first, and only what is live.
+#![tactic(auto)]
+
 use bg_attribs::BgAttribute;
 use colors::{ColorPalette, PaletteSet};
 use fifo::{BgFifo, BgFifoPixel, SpriteFifo, SpriteFifoPixel};
@@ -77,11 +79,9 @@ fn bg_queue(start: u64, q: BgFifo) -> u64 {
     let head = q.head as usize;
     let len = q.len as usize;
     let mut h = wire::take_in(start, q.len);
-    let mut k = 0;
-    while k < len {
+    for k in 0..len {
         let at = (head + k) % 16;
         h = bg_pixel(h, pixels[at]);
-        k += 1;
     }
     h
 }
@@ -100,11 +100,9 @@ fn sprite_queue(start: u64, q: SpriteFifo) -> u64 {
     let head = q.head as usize;
     let len = q.len as usize;
     let mut h = wire::take_in(start, q.len);
-    let mut k = 0;
-    while k < len {
+    for k in 0..len {
         let at = (head + k) % 8;
         h = sprite_pixel(h, pixels[at]);
-        k += 1;
     }
     h
 }
@@ -140,12 +138,10 @@ fn selection(start: u64, s: Selection) -> u64 {
     let slots = s.slots;
     let count = s.count as usize;
     let mut h = wire::take_in(start, s.count);
-    let mut k = 0;
-    while k < 10 {
+    for k in 0..10 {
         if k < count {
             h = slot(h, slots[k]);
         }
-        k += 1;
     }
     h
 }

@@ -1,5 +1,6 @@
 // A line of a capture, read as a call of the unit, and a call printed as its line. What a line says is `reading`
 // (specs/Reading); a call's text is `printed` (specs/Printing). No line and no call is refused.
+#![tactic(auto)]
 ghost use Rattle.std.specs.Prelude.{◌≡◌, false, cond, ◌∷◌, ◌+◌, ◌≤◌, ◌<◌, min, length, get_or, take, drop};
 ghost use Rattle.io.specs.Counts.{IsPrefixLen};
 ghost use Rattle.texts.specs.Appended.{Appended};
@@ -15,7 +16,7 @@ ghost use Rattle.captures.specs.Printing.{spaced, kind_word, bytes_words, printe
 ghost use Rattle.captures.specs.Parts.{TextEnds, Unblank, IsWord, Found, Took};
 
 // Bytes for VRAM or OAM: `count` of them (1 to 8), the first the highest of `bytes`, `times` over from `address` on.
-#[derive(Drop)]
+#[derive(Clone, Copy)]
 pub struct Bytes {
     pub address: u16,
     pub bytes: u64,
@@ -24,7 +25,7 @@ pub struct Bytes {
 }
 
 // A call of the unit.
-#[derive(Drop)]
+#[derive(Clone, Copy)]
 pub enum Call {
     Start { dmg: bool, cgb: bool },
     Write { address: u16, value: u8 },
@@ -36,7 +37,7 @@ pub enum Call {
 }
 
 // What is wrong with a line: the first from the left.
-#[derive(Drop)]
+#[derive(Clone, Copy)]
 pub enum Reason {
     Unknown,
     Missing,
@@ -53,7 +54,7 @@ pub enum Reason {
 }
 
 // What a line says.
-#[derive(Drop)]
+#[derive(Clone, Copy)]
 pub enum Line {
     Nothing,
     Call(Call),
@@ -61,7 +62,7 @@ pub enum Line {
 }
 
 // The arguments that a call may want.
-#[derive(Drop)]
+#[derive(Clone, Copy)]
 enum Wanted {
     Device,
     Colour,
@@ -75,21 +76,21 @@ enum Wanted {
 }
 
 // The number that a word means, if any.
-#[derive(Drop)]
+#[derive(Clone, Copy)]
 enum Number {
     Is(u64),
     Bad,
 }
 
 // The next word of a text: where it starts and where it stops, if there is one.
-#[derive(Drop)]
+#[derive(Clone, Copy)]
 enum Next {
     Word { start: usize, stop: usize },
     End,
 }
 
 // An argument: its number, how many bytes its word has and the place behind it; or what is wrong.
-#[derive(Drop)]
+#[derive(Clone, Copy)]
 enum Argument {
     Read {
         value: u64,

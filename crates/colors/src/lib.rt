@@ -1,4 +1,5 @@
 // Colours: 15 bits a colour, eight palettes of four behind an index port, and the shades of a palette byte.
+#![tactic(auto)]
 ghost use Rattle.std.specs.Prelude.{◌≡◌, true, ◌<◌, ◌+◌, ◌*◌, ◌/◌, ◌%◌, set};
 ghost use Rattle.colors.specs.Colour.{colour_of, raw_of};
 ghost use Rattle.colors.specs.Shade.{shade};
@@ -6,7 +7,7 @@ ghost use Rattle.colors.specs.Palettes.{colour_at, palette_of, palette, palette_
 ghost use Rattle.colors.specs.Palettes.{fresh_set, index_written, data_written, after_write, next, index_read, data_read};
 ghost use Rattle.wrap.specs.Wrap.{bit_at};
 
-#[derive(Drop)]
+#[derive(Clone, Copy)]
 pub struct Color {
     pub r: u8,
     pub g: u8,
@@ -35,7 +36,7 @@ impl Color {
 }
 
 // Four colours as words.
-#[derive(Drop)]
+#[derive(Clone, Copy)]
 pub struct ColorPalette {
     pub c0: u16,
     pub c1: u16,
@@ -78,7 +79,7 @@ pub fn shade_of(palette: u8, color: u8) -> u8
 }
 
 // Eight palettes of four colours as 64 bytes, with their index port.
-#[derive(Drop)]
+#[derive(Clone, Copy)]
 pub struct PaletteSet {
     pub bytes: [u8; 64],
     pub index: u8,

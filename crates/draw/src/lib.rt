@@ -2,6 +2,7 @@
 //
 // It stands in two halves, so that few bytes move: `prepare` changes the queues, and is called only where something joins them;
 // `draw` lets the front leave, and takes over only what that can change, which no slot of a queue is.
+#![tactic(auto)]
 ghost use Rattle.std.specs.Prelude.{◌≡◌, ◌<◌, ◌≤◌, length};
 ghost use Rattle.hardware.specs.Screen.{width};
 ghost use Rattle.hardware.specs.Tables.{vram_bytes};
@@ -17,14 +18,14 @@ use lcd::Rgb;
 use state::{Beam, Fetcher, Pipe, Registers, Spot, State, Waiting};
 
 // What a draw answers besides the state: a place, by column and line, with its three bytes, or nothing.
-#[derive(Drop)]
+#[derive(Clone, Copy)]
 pub enum Shot {
     Place(u8, u8, Rgb),
     Nothing,
 }
 
 // The state after a draw, and what it answered.
-#[derive(Drop)]
+#[derive(Clone, Copy)]
 pub struct Drawn {
     pub state: State,
     pub shot: Shot,

@@ -1,4 +1,5 @@
 // The pixel queues: sixteen slots for the background, eight for sprites, each a ring with a head and a length.
+#![tactic(auto)]
 ghost use Rattle.std.specs.Prelude.{◌≡◌, ◌<◌, ◌≤◌};
 ghost use Rattle.fifo.specs.Background.{bg_fresh, bg_row, bg_pushed, bg_popped, bg_cleared};
 ghost use Rattle.fifo.specs.Sprites.{sprite_fresh, inked, over, inked_row, sprite_pushed, sprite_popped, sprite_cleared};
@@ -7,7 +8,7 @@ use colors::ColorPalette;
 
 // A background pixel: the palette of its tile, its colour number, and whether the tile stands above sprites. The palette stands
 // first, so that a slot has no gap.
-#[derive(Drop)]
+#[derive(Clone, Copy)]
 pub struct BgFifoPixel {
     pub palette: ColorPalette,
     pub color: u8,
@@ -16,7 +17,7 @@ pub struct BgFifoPixel {
 
 // A sprite pixel: its palette, its colour number, whether the palette is OBP0 or OBP1 outside colour mode, its place in OAM,
 // and whether it stands behind.
-#[derive(Drop)]
+#[derive(Clone, Copy)]
 pub struct SpriteFifoPixel {
     pub palette: ColorPalette,
     pub color: u8,
@@ -26,7 +27,7 @@ pub struct SpriteFifoPixel {
 }
 
 // The background queue: `len` pixels from slot `head` on, modulo 16.
-#[derive(Drop)]
+#[derive(Clone, Copy)]
 pub struct BgFifo {
     pub pixels: [BgFifoPixel; 16],
     pub head: u8,
@@ -34,7 +35,7 @@ pub struct BgFifo {
 }
 
 // What a pop of the background queue gives.
-#[derive(Drop)]
+#[derive(Clone, Copy)]
 pub struct BgPopped {
     pub pixel: BgFifoPixel,
     pub fifo: BgFifo,
@@ -146,7 +147,7 @@ impl SpriteFifoPixel {
 }
 
 // The sprite queue: `len` pixels from slot `head` on, modulo 8.
-#[derive(Drop)]
+#[derive(Clone, Copy)]
 pub struct SpriteFifo {
     pub pixels: [SpriteFifoPixel; 8],
     pub head: u8,
@@ -154,14 +155,14 @@ pub struct SpriteFifo {
 }
 
 // A pixel, or nothing when the queue is empty.
-#[derive(Drop)]
+#[derive(Clone, Copy)]
 pub enum SpritePop {
     Pixel(SpriteFifoPixel),
     Nothing,
 }
 
 // What a pop of the sprite queue gives.
-#[derive(Drop)]
+#[derive(Clone, Copy)]
 pub struct SpritePopped {
     pub answer: SpritePop,
     pub fifo: SpriteFifo,

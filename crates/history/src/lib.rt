@@ -1,6 +1,7 @@
 // The public calls in the words of a run: each function calls its namesake of `ppu`, and promises what specs/Public says, that
 // its answer and what it leaves are `number`, `answer` and `perform` of specs/Run. So what is proved of runs (specs/Demand) is
 // proved of the functions that a caller calls. Nothing is added to them.
+#![tactic(auto)]
 ghost use Rattle.hardware.specs.Tables.{tables};
 ghost use Rattle.lcd.specs.Pictures.{pictures};
 ghost use Rattle.history.specs.Public.{world, Started, Stepped, Writes, Reads, WritesVram, WritesOam, Colours};

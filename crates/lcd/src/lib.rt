@@ -1,4 +1,5 @@
 // The display: the colour mix, and two pictures of three bytes a place.
+#![tactic(auto)]
 ghost use Rattle.std.specs.Prelude.{◌≡◌, ◌<◌, ◌≤◌, length, replicate};
 ghost use Rattle.hardware.specs.Screen.{width, height, picture_bytes, offset};
 ghost use Rattle.lcd.specs.Mix.{quarter, mix};
@@ -8,7 +9,7 @@ use colors::Color;
 use hardware::Machine;
 
 // The three bytes of a place.
-#[derive(Drop)]
+#[derive(Clone, Copy)]
 pub struct Rgb {
     pub red: u8,
     pub green: u8,

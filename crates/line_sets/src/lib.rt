@@ -1,5 +1,6 @@
 // Which sprites touch which line: a set of OAM's entries for each line, kept beside OAM in lent numbers. Bit i of a line's
 // set says whether entry i touches the line, for sprites as tall as the sets were built for.
+#![tactic(auto)]
 ghost use Rattle.std.specs.Prelude.{◌≡◌, ◌%◌, ◌^◌, ◌<◌, true, length, replicate};
 ghost use Rattle.hardware.specs.Screen.{height};
 ghost use Rattle.hardware.specs.Tables.{oam_bytes};
@@ -16,21 +17,21 @@ use sprite::{Picked, SelectedSprite, Selection, Sprite};
 const SETS: u64 = 1_099_511_627_776;
 
 // How many entries touch a line; 0 where the call is refused.
-#[derive(Drop)]
+#[derive(Clone, Copy)]
 pub struct Counted {
     pub number: u8,
     pub count: u8,
 }
 
 // The lowest entry of a set, if it has one.
-#[derive(Drop)]
+#[derive(Clone, Copy)]
 pub enum Lowest {
     Nothing,
     Entry(u8),
 }
 
 // The first entry that touches a line; nothing where the call is refused.
-#[derive(Drop)]
+#[derive(Clone, Copy)]
 pub struct Found {
     pub number: u8,
     pub first: Lowest,

@@ -1,4 +1,5 @@
 // One pixel: the sprites that start at a place, and the mixer of background and sprite.
+#![tactic(auto)]
 ghost use Rattle.std.specs.Prelude.{◌≡◌, ◌<◌, ◌≤◌, length};
 ghost use Rattle.hardware.specs.Tables.{vram_bytes};
 ghost use Rattle.pixel.specs.Sprites.{tall_of, selector, ink_of, none_starts, sprite_added, sprites_added};
@@ -113,7 +114,7 @@ pub fn add_sprites(
 }
 
 // What is seen at a place: the background pixel, or a sprite pixel in front of it.
-#[derive(Drop)]
+#[derive(Clone, Copy)]
 pub enum Winner {
     Background,
     Sprite(SpriteFifoPixel),

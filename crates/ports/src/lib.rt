@@ -1,5 +1,6 @@
 // The public calls that touch no picture, or only show one: reads and writes of the ports, VRAM and OAM, the colour flag, OAM
 // corruption, the picture shown, the pick; with their refusals. No call asks anything of its caller. `ppu` hands them on.
+#![tactic(auto)]
 ghost use Rattle.std.specs.Prelude.{◌≡◌};
 ghost use Rattle.sprite.specs.Pick.{pick_of};
 ghost use Rattle.ports.specs.Calls.{read_answer, colour_answer, VramWrite, OamWrite, OamBug, Shown};
@@ -8,14 +9,14 @@ use sprite::Picked;
 use state::State;
 
 // A number of 01's table, 0 for done, and the state.
-#[derive(Drop)]
+#[derive(Clone, Copy)]
 pub struct Answer {
     pub number: u8,
     pub state: State,
 }
 
 // What a register read answers.
-#[derive(Drop)]
+#[derive(Clone, Copy)]
 pub struct ReadAnswer {
     pub number: u8,
     pub value: u8,

@@ -1,6 +1,7 @@
 // The picture unit, the face of every call of the scope: start, step and register write stand here, the calls that touch no
 // picture or only show one in `ports`, the locked ones in `locks`. Their numbers are of the crate `terms`. No call asks anything of
 // its caller.
+#![tactic(auto)]
 ghost use Rattle.std.specs.Prelude.{◌≡◌};
 ghost use Rattle.hardware.specs.Tables.{tables};
 ghost use Rattle.lcd.specs.Pictures.{pictures};
@@ -17,7 +18,7 @@ use state::State;
 use step::Report;
 
 // What a step answers.
-#[derive(Drop)]
+#[derive(Clone, Copy)]
 pub struct StepAnswer {
     pub number: u8,
     pub report: Report,

@@ -1,4 +1,5 @@
 // The registers: which can be written, what a write and a read do, blanking, and the colour flag.
+#![tactic(auto)]
 ghost use Rattle.std.specs.Prelude.{◌≡◌, cond, true, ◌<◌, ◌≤◌, ◌+◌, ◌%◌};
 ghost use Rattle.lcd.specs.Pictures.{pictures};
 ghost use Rattle.order.specs.Fine.{SetFine, PalettesFine};
@@ -11,7 +12,7 @@ use colors::PaletteSet;
 use state::{Beam, Palettes, Registers, State};
 
 // A writable register: its address and the bits of a write that are kept.
-#[derive(Drop)]
+#[derive(Clone, Copy)]
 pub struct Writable(pub u16, pub u8);
 
 const WRITABLE: [Writable; 16] = [

@@ -4,14 +4,14 @@ use sprite::SelectedSprite;
 use state::State;
 
 // The state and the slots of the last pick.
-#[derive(Drop)]
+#[derive(Clone, Copy)]
 pub struct Desk {
     pub state: State,
     pub slots: [SelectedSprite; 10],
 }
 
 // What is on the desk after a request, and its answer: eight bytes and eight more.
-#[derive(Drop)]
+#[derive(Clone, Copy)]
 pub struct Reply {
     pub desk: Desk,
     pub head: [u8; 8],

@@ -1,13 +1,15 @@
 // Answers a list of requests to the picture unit: eight bytes in, sixteen bytes out, to the end of the input.
+#![tactic(auto)]
 mod desk;
 
 ghost use Rattle.std.specs.Prelude.{◌≤◌};
 
 use desk::Desk;
 use hardware::Machine;
+use std::io::{Read, Write};
 
 // The desk after some requests, and whether to go on.
-#[derive(Drop)]
+#[derive(Clone, Copy)]
 struct Step {
     desk: Desk,
     more: bool,
@@ -44,6 +46,7 @@ fn answer_some(
 
 // Answers `count` requests from byte `first` on and writes the answers; `more` says whether it could.
 fn half(
+    out: &mut impl Write,
     start: Desk,
     vram: &mut [u8; Machine::VRAM_BYTES],
     oam: &mut [u8; Machine::OAM_BYTES],
@@ -55,14 +58,15 @@ fn half(
 ) -> Step
     requires { (first ≤ 32768) × (count ≤ 4096) }
 {
-    let mut answers = io::large_buffer();
+    let mut answers = [0u8; 65536];
     let desk = answer_some(start, vram, oam, a, b, requests, &mut answers, first, count);
-    let more = wire::write_first(&answers, 16 * count);
+    let more = wire::write_first(out, &answers, 16 * count).is_ok();
     Step { desk, more }
 }
 
 // Answers the first `count` requests of a buffer, whose answers fill two.
 fn answer_all(
+    out: &mut impl Write,
     start: Desk,
     vram: &mut [u8; Machine::VRAM_BYTES],
     oam: &mut [u8; Machine::OAM_BYTES],
@@ -74,56 +78,68 @@ fn answer_all(
     requires { count ≤ 8192 }
 {
     if count <= 4096 {
-        return half(start, vram, oam, a, b, requests, 0, count);
+        return half(out, start, vram, oam, a, b, requests, 0, count);
     }
-    let begun = half(start, vram, oam, a, b, requests, 0, 4096);
+    let begun = half(out, start, vram, oam, a, b, requests, 0, 4096);
     if !begun.more {
         return begun;
     }
     let desk = begun.desk;
-    half(desk, vram, oam, a, b, requests, 32768, count - 4096)
+    half(out, desk, vram, oam, a, b, requests, 32768, count - 4096)
 }
 
 // Reads a buffer of requests and writes its answers; what has no answer is said.
 fn turn(
+    input: &mut impl Read,
+    out: &mut impl Write,
+    err: &mut impl Write,
     start: Desk,
     vram: &mut [u8; Machine::VRAM_BYTES],
     oam: &mut [u8; Machine::OAM_BYTES],
     a: &mut [u8; Machine::PICTURE_BYTES],
     b: &mut [u8; Machine::PICTURE_BYTES],
 ) -> Step {
-    let mut requests = io::large_buffer();
-    let arrived = wire::read_requests(&mut requests);
-    let answered = answer_all(start, vram, oam, a, b, &requests, arrived.count);
+    let mut requests = [0u8; 65536];
+    let arrived = wire::read_requests(input, &mut requests);
+    let answered = answer_all(out, start, vram, oam, a, b, &requests, arrived.count);
     let desk = answered.desk;
-    let more = wire::goes_on(b"replay", arrived, answered.more);
+    let more = wire::goes_on(err, b"replay", arrived, answered.more);
     Step { desk, more }
 }
 
-// Nothing says that an input ends, so the turns are counted down from a number that no run uses up.
+// Nothing says that an input ends, so the turns are counted up to a number that no run comes to.
 fn run(
+    input: &mut impl Read,
+    out: &mut impl Write,
+    err: &mut impl Write,
     vram: &mut [u8; Machine::VRAM_BYTES],
     oam: &mut [u8; Machine::OAM_BYTES],
     a: &mut [u8; Machine::PICTURE_BYTES],
     b: &mut [u8; Machine::PICTURE_BYTES],
 ) {
     let mut desk = desk::fresh(vram, oam, a, b);
-    let mut turns = u64::MAX;
-    while turns > 0 {
-        let step = turn(desk, vram, oam, a, b);
+    for _ in 0..u64::MAX {
+        let step = turn(input, out, err, desk, vram, oam, a, b);
         if !step.more {
             return;
         }
         desk = step.desk;
-        turns -= 1;
     }
 }
 
 // VRAM and OAM are 0 at the start, and both pictures are white.
-fn main() {
+fn main(rt: HostRuntime) {
     let mut vram = [0u8; Machine::VRAM_BYTES];
     let mut oam = [0u8; Machine::OAM_BYTES];
     let mut a = [255u8; Machine::PICTURE_BYTES];
     let mut b = [255u8; Machine::PICTURE_BYTES];
-    run(&mut vram, &mut oam, &mut a, &mut b);
+    run(
+        &mut rt.stdin(),
+        &mut rt.stdout(),
+        &mut rt.stderr(),
+        &mut vram,
+        &mut oam,
+        &mut a,
+        &mut b,
+    );
 }

@@ -7,7 +7,7 @@ use hardware::Machine;
 use sprite::SelectedSprite;
 
 // The palettes, the slots of the last pick and the number of the picture shown.
-#[derive(Drop)]
+#[derive(Clone, Copy)]
 pub struct Bench {
     pub set: PaletteSet,
     pub slots: [SelectedSprite; 10],
@@ -15,7 +15,7 @@ pub struct Bench {
 }
 
 // The state after a request, and its answer.
-#[derive(Drop)]
+#[derive(Clone, Copy)]
 pub struct Reply {
     pub bench: Bench,
     pub bytes: [u8; 8],

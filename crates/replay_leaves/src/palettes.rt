@@ -5,7 +5,7 @@ use crate::plain;
 use colors::{ColorPalette, PaletteSet};
 
 // The palettes after a request, and its answer.
-#[derive(Drop)]
+#[derive(Clone, Copy)]
 pub struct Answered {
     pub set: PaletteSet,
     pub bytes: [u8; 8],

@@ -1,4 +1,5 @@
 // Sprites: an entry of OAM, and the search of a line for the ten to draw.
+#![tactic(auto)]
 ghost use Rattle.std.specs.Prelude.{◌≡◌, ◌<◌, ◌*◌, ◌+◌, length, get_or, set};
 ghost use Rattle.hardware.specs.Tables.{oam_bytes};
 ghost use Rattle.sprite.specs.Oam.{entry, screen_y, screen_x, in_range, entry_bytes, moved_left};
@@ -8,7 +9,7 @@ ghost use Rattle.sprite.specs.Pick.{selection, blank_slots, is_tall, pickable, p
 use hardware::Machine;
 
 // The four bytes of an entry of OAM.
-#[derive(Drop)]
+#[derive(Clone, Copy)]
 pub struct Sprite {
     pub y: u8,
     pub x: u8,
@@ -119,7 +120,7 @@ impl Sprite {
 }
 
 // A copy of an entry, with its index.
-#[derive(Drop)]
+#[derive(Clone, Copy)]
 pub struct SelectedSprite {
     pub sprite: Sprite,
     pub index: u8,
@@ -134,7 +135,7 @@ impl SelectedSprite {
 }
 
 // The entries that a search picked: the first `count` of the slots.
-#[derive(Drop)]
+#[derive(Clone, Copy)]
 pub struct Selection {
     pub count: u8,
     pub slots: [SelectedSprite; 10],
@@ -167,7 +168,7 @@ pub fn select(oam: &[u8], line: u8, tall: u8, former: [SelectedSprite; 10]) -> S
 }
 
 // The answer to a pick: 01's number, and what was picked.
-#[derive(Drop)]
+#[derive(Clone, Copy)]
 pub struct Picked {
     pub number: u8,
     pub selection: Selection,

@@ -1,4 +1,5 @@
 // The state of the machine, in small groups.
+#![tactic(auto)]
 use bg_attribs::BgAttribute;
 use colors::PaletteSet;
 use fifo::{BgFifo, SpriteFifo};
@@ -6,7 +7,7 @@ use hardware::Machine;
 use sprite::Selection;
 
 // The registers by their names in Pan Docs, the priority of sprites (FF6C: by coordinate or by index) and colour mode.
-#[derive(Drop)]
+#[derive(Clone, Copy)]
 pub struct Registers {
     pub lcdc: u8,
     pub stat: u8,
@@ -25,21 +26,21 @@ pub struct Registers {
 }
 
 // The palettes of the background and of sprites.
-#[derive(Drop)]
+#[derive(Clone, Copy)]
 pub struct Palettes {
     pub bg: PaletteSet,
     pub obj: PaletteSet,
 }
 
 // A fetched row that waits, by its attribute; its colours stand beside it.
-#[derive(Drop)]
+#[derive(Clone, Copy)]
 pub enum Waiting {
     Row(BgAttribute),
     Nothing,
 }
 
 // The fetcher: cycles to the next fetch, the fetch column, and what was fetched.
-#[derive(Drop)]
+#[derive(Clone, Copy)]
 pub struct Fetcher {
     pub delay: u8,
     pub column: u8,
@@ -49,7 +50,7 @@ pub struct Fetcher {
 
 // What a draw works on: the fetcher, the two queues, whether it is in the window and the window's row, and how many
 // pixels are to be discarded.
-#[derive(Drop)]
+#[derive(Clone, Copy)]
 pub struct Pipe {
     pub fetcher: Fetcher,
     pub bg: BgFifo,
@@ -61,7 +62,7 @@ pub struct Pipe {
 
 // The beam: line and cycle, LCD x, the picture shown, the places stored since the last swap or blanking, the cycle at
 // which mode 3 ended, the STAT level, whether the display was just turned on, and whether it was blanked since the last swap.
-#[derive(Drop)]
+#[derive(Clone, Copy)]
 pub struct Beam {
     pub line: u8,
     pub cycle: u16,
@@ -74,7 +75,7 @@ pub struct Beam {
     pub blanked: bool,
 }
 
-#[derive(Drop)]
+#[derive(Clone, Copy)]
 pub struct State {
     pub machine: Machine,
     pub regs: Registers,
@@ -85,7 +86,7 @@ pub struct State {
 }
 
 // A place on the screen that is drawn: its line and its column.
-#[derive(Drop)]
+#[derive(Clone, Copy)]
 pub struct Spot {
     pub line: u8,
     pub x: u8,

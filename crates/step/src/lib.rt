@@ -1,4 +1,5 @@
 // One step: the mode that begins, the draws with their places, the STAT level, the beam, and the answer.
+#![tactic(auto)]
 ghost use Rattle.std.specs.Prelude.{◌≡◌, not, ◌&&◌, ◌<◌, ◌≤◌, ◌+◌, length};
 ghost use Rattle.hardware.specs.Screen.{line_cycles, frame_lines};
 ghost use Rattle.hardware.specs.Tables.{vram_bytes, tables};
@@ -14,7 +15,7 @@ use state::{Beam, Registers, State};
 
 // What a step answers: 01's request bits (1 VBlank, 2 STAT), the mode, the coincidence, LY, whether it swapped, the mark of the
 // picture, and how many places were stored.
-#[derive(Drop)]
+#[derive(Clone, Copy)]
 pub struct Report {
     pub requests: u8,
     pub mode: u8,
@@ -26,14 +27,14 @@ pub struct Report {
 }
 
 // What a step answers, and the state after it.
-#[derive(Drop)]
+#[derive(Clone, Copy)]
 pub struct Stepped {
     pub report: Report,
     pub state: State,
 }
 
 // The end of a step: what it answers, and the two groups that it changes.
-#[derive(Drop)]
+#[derive(Clone, Copy)]
 pub struct Ended {
     pub report: Report,
     pub regs: Registers,

@@ -1,4 +1,5 @@
 // Tile rows out of VRAM, each with where it was read: the background's by the map, and the sprites'.
+#![tactic(auto)]
 ghost use Rattle.std.specs.Prelude.{◌≡◌, reverse, ◌<◌, ◌≤◌, length};
 ghost use Rattle.hardware.specs.Tables.{bank_bytes, vram_bytes};
 ghost use Rattle.tiles.specs.Tile.{byte_at, colour_in, row_of, mirrored, tile_address};
@@ -11,21 +12,21 @@ use hardware::Machine;
 use sprite::Sprite;
 
 // Where a row stands in VRAM: its bank, and the offset of its first byte in it.
-#[derive(Drop)]
+#[derive(Clone, Copy)]
 pub struct Address {
     pub bank: u8,
     pub offset: u16,
 }
 
 // Where a row was read: at the address of its first byte, or nowhere.
-#[derive(Drop)]
+#[derive(Clone, Copy)]
 pub enum Source {
     ReadAt(Address),
     NothingRead,
 }
 
 // A row as it was read: eight colours, leftmost first, and their source.
-#[derive(Drop)]
+#[derive(Clone, Copy)]
 pub struct TileRow {
     pub colors: [u8; 8],
     pub source: Source,
@@ -159,7 +160,7 @@ pub fn pattern_of(vram: &[u8], lcdc: u8, tile: u8, attribute: BgAttribute, row: 
 }
 
 // What the fetcher takes over: eight colours and the tile's attribute.
-#[derive(Drop)]
+#[derive(Clone, Copy)]
 pub struct Fetched {
     pub row: [u8; 8],
     pub attribute: BgAttribute,
@@ -167,7 +168,7 @@ pub struct Fetched {
 
 // What a fetch answers: beside what the fetcher takes over the source of its row. The source ends here: it is for a memory
 // viewer, and no queue, no state and no step's answer has it. A line painter will hand the viewer the source of each place.
-#[derive(Drop)]
+#[derive(Clone, Copy)]
 pub struct FetchedRow {
     pub tile: Fetched,
     pub source: Source,
@@ -195,7 +196,7 @@ pub fn fetch_tile(vram: &[u8], lcdc: u8, high: bool, row: u8, column: u8) -> Fet
 
 // What a fetch depends on besides VRAM: colour mode, LCDC, whether it is in the window, the scroll registers, the line,
 // the window's row and the fetch column.
-#[derive(Drop)]
+#[derive(Clone, Copy)]
 pub struct Fetch {
     pub cgb: bool,
     pub lcdc: u8,

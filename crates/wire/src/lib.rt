@@ -1,11 +1,14 @@
 // What the programs share: requests and answers in buffers, numbers as text, what is said on standard error where a request has
 // no answer, and the FNV-1a digest of 64 bits.
-ghost use Rattle.std.specs.Prelude.{◌≤◌};
+#![tactic(auto)]
 
-use libc::{STDERR_FILENO, STDIN_FILENO, STDOUT_FILENO};
+ghost use Rattle.std.specs.Prelude.{◌≤◌, length};
+
+use std::io;
+use std::io::{Read, Write};
 
 // What comes after what was read: more, perhaps; nothing, at the end of the input; or a read that failed.
-#[derive(Drop)]
+#[derive(Clone, Copy)]
 pub enum Next {
     More,
     End,
@@ -13,76 +16,89 @@ pub enum Next {
 }
 
 // What a read brought: whole requests of eight bytes, the bytes of one that is not whole, and what comes next.
-#[derive(Drop)]
+#[derive(Clone, Copy)]
 pub struct Arrived {
     pub count: usize,
     pub over: usize,
     pub next: Next,
 }
 
-// Whether a read that came short came to the end of the input. `io::read_full` stops there and at a failed read alike, so one
-// byte more is asked for: only at the end is the answer 0.
-pub fn is_at_end() -> bool {
-    let mut byte = [0u8; 1];
-    libc::read(STDIN_FILENO, &mut byte) == 0
+// Reads until the buffer is full, the input ends or a read fails, and answers how many bytes came: they stand at its start.
+pub fn read_full(input: &mut impl Read, buffer: &mut [u8]) -> usize
+    ensures { result ≤ length buffer.new }
+{
+    let mut done = 0;
+    while done < buffer.len() {
+        match input.read(&mut buffer[done..]) {
+            Ok(0) | Err(_) => return done,
+            Ok(n) => done += n,
+        }
+    }
+    done
 }
 
-// A space and a byte as a number. Each function that prints answers whether it could.
-pub fn print_next(byte: u8) -> bool {
-    io::write_all(STDOUT_FILENO, b" ") && io::print_decimal(STDOUT_FILENO, byte as u64)
+// Whether a read that came short came to the end of the input. `read_full` stops there and at a failed read alike, so one byte
+// more is asked for: only at the end does none come.
+pub fn is_at_end(input: &mut impl Read) -> bool {
+    let mut byte = [0u8; 1];
+    matches!(input.read(&mut byte), Ok(0))
+}
+
+// A space and a byte as a number. Each function that prints stops at the first write that fails.
+pub fn print_next(out: &mut impl Write, byte: u8) -> io::Result<()> {
+    write!(out, " {byte}")
 }
 
 // A word, a number and the line's end.
-pub fn print_line(word: &[u8], number: u8) -> bool {
-    io::write_all(STDOUT_FILENO, word)
-        && io::print_decimal(STDOUT_FILENO, number as u64)
-        && io::write_all(STDOUT_FILENO, b"\n")
+pub fn print_line(out: &mut impl Write, word: &[u8], number: u8) -> io::Result<()> {
+    out.write_all(word)?;
+    writeln!(out, "{number}")
 }
 
 // What comes after a read of so many bytes: a full buffer says nothing of it.
-fn next_of(got: usize) -> Next {
+fn next_of(input: &mut impl Read, got: usize) -> Next {
     if got == 65536 {
         return Next::More;
     }
-    if is_at_end() {
+    if is_at_end(input) {
         return Next::End;
     }
     Next::Failure
 }
 
 // Fills a buffer from the input.
-pub fn read_requests(requests: &mut [u8; 65536]) -> Arrived
+pub fn read_requests(input: &mut impl Read, requests: &mut [u8; 65536]) -> Arrived
     ensures { result.count ≤ 8192 }
 {
-    let got = io::read_full(STDIN_FILENO, requests);
+    let got = read_full(input, requests);
     Arrived {
         count: got / 8,
         over: got % 8,
-        next: next_of(got),
+        next: next_of(input, got),
     }
 }
 
 // Says something on standard error, after the program's name. Where that fails too, nothing is left to do.
-pub fn say(program: &[u8], line: &[u8]) {
-    io::write_all(STDERR_FILENO, program);
-    io::write_all(STDERR_FILENO, line);
+pub fn say(err: &mut impl Write, program: &[u8], line: &[u8]) {
+    let _ = err.write_all(program);
+    let _ = err.write_all(line);
 }
 
 // Says that a part of a request at the end of the input has no answer.
-fn say_over(program: &[u8], over: usize) {
+fn say_over(err: &mut impl Write, program: &[u8], over: usize) {
     if over == 0 {
         return;
     }
-    say(program, b": the input ends within a request, after ");
-    io::print_decimal(STDERR_FILENO, over as u64);
-    io::write_all(STDERR_FILENO, b" of its 8 bytes: it has no answer\n");
+    say(err, program, b": the input ends within a request, after ");
+    let _ = writeln!(err, "{over} of its 8 bytes: it has no answer");
 }
 
 // Whether a program goes on after what arrived, its answers written or not. Where it does not, says why a request has no
-// answer: there is no exit status to tell it by.
-pub fn goes_on(program: &[u8], arrived: Arrived, written: bool) -> bool {
+// answer: the exit status tells nothing.
+pub fn goes_on(err: &mut impl Write, program: &[u8], arrived: Arrived, written: bool) -> bool {
     if !written {
         say(
+            err,
             program,
             b": an answer could not be written: the answers end before the requests do\n",
         );
@@ -92,11 +108,12 @@ pub fn goes_on(program: &[u8], arrived: Arrived, written: bool) -> bool {
     match next {
         Next::More => true,
         Next::End => {
-            say_over(program, arrived.over);
+            say_over(err, program, arrived.over);
             false
         }
         Next::Failure => {
             say(
+                err,
                 program,
                 b": the input could not be read to its end: the answers end with the last whole request that came\n",
             );
@@ -135,12 +152,11 @@ pub fn put(answers: &mut [u8; 65536], i: usize, bytes: [u8; 8])
     answers[i + 7] = bytes[7];
 }
 
-// Writes the first n bytes of a buffer, and answers whether it could.
-pub fn write_first(answers: &[u8; 65536], n: usize) -> bool
+// Writes the first n bytes of a buffer.
+pub fn write_first(out: &mut impl Write, answers: &[u8; 65536], n: usize) -> io::Result<()>
     requires { n ≤ 65536 }
 {
-    let all = &answers[..];
-    io::write_all(STDOUT_FILENO, &all[..n])
+    out.write_all(&answers[..n])
 }
 
 // The product with the prime 0x100000001B3 modulo 2^64, by halves of 32 bits.
@@ -165,10 +181,8 @@ pub fn take_in(h: u64, byte: u8) -> u64 {
 // The digest with more bytes.
 pub fn take_all(start: u64, bytes: &[u8]) -> u64 {
     let mut h = start;
-    let mut i = 0;
-    while i < bytes.len() {
-        h = take_in(h, bytes[i]);
-        i += 1;
+    for byte in bytes {
+        h = take_in(h, *byte);
     }
     h
 }

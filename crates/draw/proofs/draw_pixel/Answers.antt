@@ -1,0 +1,10 @@
+-- `draw::draw_pixel` meets its contract.
+use Rattle.draw.proofs.Fine.{front_coloured}
+use Rattle.pixel.proofs.Added.{popped_coloured}
+use Rattle.std.proofs.Common.{rules}
+use Rattle.draw.proofs.draw_pixel.Goals as goal
+
+pub mixer-color-requires : goal.mixer-color-requires
+mixer-color-requires c =
+    let p = c.requires.1 in
+    (rw c.pop-front.ensures (front_coloured p.bg c.requires.2), rw c.pop-sprite.ensures (popped_coloured _ p.obj.pixels))

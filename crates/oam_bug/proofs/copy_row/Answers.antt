@@ -1,0 +1,8 @@
+-- `oam_bug::copy_row` meets its contract.
+use borrow.Author.Rules.{rules}
+use Rattle.oam_bug.specs.Words.{row_copied}
+use Rattle.oam_bug.proofs.copy_row.Goals as goal
+
+pub returns : goal.returns
+unfolding row_copied
+returns c = cc

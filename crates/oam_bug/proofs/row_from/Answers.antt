@@ -1,0 +1,8 @@
+-- `oam_bug::row_from` meets its contract.
+use borrow.Author.Rules.{rules}
+use Rattle.oam_bug.specs.Words.{row_from}
+use Rattle.oam_bug.proofs.row_from.Goals as goal
+
+pub returns : goal.returns
+unfolding row_from
+returns c = cc

@@ -1,0 +1,15 @@
+-- `pixel::decide` meets its contract.
+use Rattle.pixel.specs.Mixer.{winner}
+use Rattle.pixel.proofs.decide.Goals as goal
+
+pub returns-in_default : goal.returns-in_default
+unfolding winner
+returns-in_default c = rw c.in_default.is
+
+pub returns-then-sprite_wins : goal.returns-then-sprite_wins
+unfolding winner
+returns-then-sprite_wins c = rw (c.in-Pixel.is, ← c.sprite_wins.ensures, c.if-sprite_wins.true)
+
+pub returns : goal.returns
+unfolding winner
+returns c = rw (c.in-Pixel.is, ← c.sprite_wins.ensures, c.if-sprite_wins.false)

@@ -1,0 +1,8 @@
+-- `sprite::pick_number` meets its contract.
+use borrow.Author.Rules.{rules}
+use Rattle.sprite.specs.Pick.{pick_number}
+use Rattle.sprite.proofs.pick_number.Goals as goal
+
+pub returns : goal.returns
+unfolding pick_number
+returns c = rw (c.lowest.ensures, c.own-own.ensures, c.is_pickable.ensures)
