@@ -17,7 +17,7 @@ use Rattle.draw.proofs.Halves.{halves_drawn, delay_left, prepared_none, prepared
 use Rattle.burst.specs.Burst.{Burst, burst, shot_stored, all_stored, Drew}
 use Rattle.burst.proofs.Ways.{drawn_on_screen, shot_length, burst_in, burst_out, burst_none}
 use Rattle.burst.proofs.draw_all.Invariants.{Underway}
-use Rattle.burst.proofs.draw_all.Goals.{then-does_join, else-does_join}
+use Rattle.burst.proofs.draw_all.Goals.{Joined-does_join, then-does_join, else-does_join}
 use Rattle.burst.proofs.draw_all.Goals as goal
 
 module _ {n : ℕ} {vram : List ℕ} {s₀ s : State} {p₀ p : List ℕ} {k : ℕ} where
@@ -56,7 +56,7 @@ abbrev ready_state : List ℕ → State → State
 ready_state vram s = with_pipe s (prepared vram s)
 
 -- either way the pipe is ready
-made : (c : goal.Joined-does_join)
+made : (c : Joined-does_join)
     → c.if-does_join.state
     ≡ ready_state c.args.vram.now c.loop-k.state
 made c =
@@ -80,17 +80,17 @@ wait-pipe-requires c =
 pub draw-drawn-requires : goal.draw-drawn-requires
 draw-drawn-requires c =
     let f = c.loop-k.invariant.fine in
-    rw (made c) (f.beam.x, prepared_fine c.args.vram.now c.loop-k.state f.selection f.pipe)
+    rw (made (goal.at.draw-drawn-requires c).Joined-does_join) (f.beam.x, prepared_fine c.args.vram.now c.loop-k.state f.selection f.pipe)
 
 pub store_shot-requires : goal.store_shot-requires
 store_shot-requires c =
     let l = c.loop-k in
-    (l.invariant.size, rw (c.draw-drawn.ensures, made c.before.before, halves_drawn) (drawn_on_screen _ l.state l.invariant.fine c.if-state-ne3.false))
+    (l.invariant.size, rw (c.draw-drawn.ensures, made (goal.at.store_shot-requires c).Joined-does_join, halves_drawn) (drawn_on_screen _ l.state l.invariant.fine c.if-state-ne3.false))
 
 pub loop-k-preserved : goal.loop-k-preserved
 loop-k-preserved c =
     let l = c.loop-k in
-    rw (c.store_shot.ensures, c.draw-drawn.ensures, made c.before.before.before.before.before.before, halves_drawn)
+    rw (c.store_shot.ensures, c.draw-drawn.ensures, made (goal.at.loop-k-preserved c).Joined-does_join, halves_drawn)
     (under_more c.loop-k-test.true c.if-state-ne3.false l.invariant)
 
 pub returns : goal.returns
