@@ -1,0 +1,14 @@
+-- `ports::oam_bug` meets its contract.
+use borrow.Author.Tests.{eqb-true}
+use borrow.Author.Rules.{rules}
+use Rattle.ports.proofs.Bug.{corruptible, bug_refused, bug_done}
+use Rattle.ports.proofs.oam_bug.Goals as goal
+
+pub corrupted_row-row-requires : goal.corrupted_row-row-requires
+corrupted_row-row-requires c =
+    (corruptible c.args.kind c.kind_number-number.ensures c.if-number-ne0.false).moment
+
+pub corrupt-requires : goal.corrupt-requires
+corrupt-requires c =
+    let f = corruptible c.args.kind c.kind_number-number.ensures c.if-number-ne0.false in
+    (eqb-true _ _ f.sized, rw c.corrupted_row-row.ensures f.row, f.known)

@@ -1,0 +1,10 @@
+-- `ports::read_register` meets its contract.
+use mathlib.Core.Path.{refl}
+use borrow.Author.Rules.{rules}
+use Rattle.refusals.proofs.Given.{refused, accepted}
+use Rattle.ports.proofs.Answers.{same_read}
+use Rattle.terms.proofs.Graded.{graded_fine}
+use Rattle.ports.proofs.read_register.Goals as goal
+
+pub read_register-value-requires : goal.read_register-value-requires
+read_register-value-requires c = (graded_fine _ c.read_number-number.ensures c.if-number-ne0.false).fine.palettes

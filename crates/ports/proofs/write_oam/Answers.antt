@@ -1,0 +1,13 @@
+-- `ports::write_oam` meets its contract.
+use mathlib.Core.Path.{sym, ◌∙◌}
+use native.Mathlib.Omega.{arith}
+use borrow.Author.Tests.{eqb-true, ltb-true}
+use borrow.Author.Rules.{rules}
+use Rattle.refusals.proofs.Given.{refused, accepted}
+use Rattle.refusals.proofs.Ladder.{lowest_none, own_none}
+use Rattle.ports.proofs.write_oam.Goals as goal
+
+pub write_oam-requires : goal.write_oam-requires
+write_oam-requires c =
+    let f = lowest_none _ _ (sym c.oam_number-number.ensures ∙ c.if-number-ne0.false) in
+    (eqb-true _ _ f.sized, ltb-true _ _ (own_none _ (omega arith) f.own))
