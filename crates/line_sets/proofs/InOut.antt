@@ -45,7 +45,7 @@ unfolding bits_of
 bits_one i zero h = absurd (omega arith)
 bits_one i (suc n) h =
     ⊎_elim
-    (λ e. rw (e, eq-eqb n n refl, bits_none (λ j. eqb j n) n (λ j l. ne_eqb j n (λ z. omega (arith, z)))) (omega arith))
+    (λ e. rw (bits_none (λ j. eqb j i) n (λ j l. ne_eqb j i (λ z. omega (arith, z))), e, eq-eqb n n refl) (omega arith))
     (λ l. rw (ne_eqb n i (λ z. omega (arith, z))) (bits_one i n l ∙ omega arith))
     (eq-or-lt_of_le (le_of_suc-le-suc h))
 

@@ -1,6 +1,7 @@
 // Which sprites touch which line: a set of OAM's entries for each line, kept beside OAM in lent numbers. Bit i of a line's
 // set says whether entry i touches the line, for sprites as tall as the sets were built for.
 #![tactic(auto)]
+
 ghost use Rattle.std.specs.Prelude.{◌≡◌, ◌%◌, ◌^◌, ◌<◌, true, length, replicate};
 ghost use Rattle.hardware.specs.Screen.{height};
 ghost use Rattle.hardware.specs.Tables.{oam_bytes};

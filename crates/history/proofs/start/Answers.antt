@@ -1,0 +1,7 @@
+-- `history::start` says of `ppu::start` what specs/Public says.
+use borrow.Author.Rules.{rules}
+use Rattle.history.proofs.Public.{start_performs}
+use Rattle.history.proofs.start.Goals as goal
+
+pub returns : goal.returns
+returns c = start_performs c.start.ensures
