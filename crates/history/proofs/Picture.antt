@@ -7,6 +7,7 @@ use lib.ListN.{length, take, drop, length-append, length-map, take-append-drop, 
 use lib.Seq.{sets, sets-eq, length-sets, length-take-le, take_at, drop-append-add, drop-drop}
 use Rattle.hardware.specs.Screen.{places, picture_bytes}
 use Rattle.lcd.specs.Mix.{rgb_bytes}
+use Rattle.lcd.specs.Pictures.{stored}
 use Rattle.lcd.specs.declared.Rgb.{Rgb}
 use Rattle.draw.specs.declared.Shot.{Shot}
 use Rattle.draw.specs.declared.Shot.TheVariants.{Place, Nothing}
@@ -23,13 +24,13 @@ put picture (t ∷ rest) = put (sets picture (3 * t.place) (rgb_bytes t.bytes)) 
 pub all_stored_law : (picture : List ℕ) (shots : List Shot) → all_stored picture shots ≡ put picture (stored_by shots)
 unfolding all_stored stored_by put
 all_stored_law picture [] = refl
-all_stored_law picture (Place x y p ∷ rest) = all_stored_law _ rest
+all_stored_law picture (Place x y p ∷ rest) = all_stored_law (stored picture x y p) rest
 all_stored_law picture (Nothing ∷ rest) = all_stored_law picture rest
 
 pub put_append : (picture : List ℕ) (l r : List Stored) → put picture (l ++ r) ≡ put (put picture l) r
 unfolding put
 put_append picture [] r = refl
-put_append picture (t ∷ l) r = put_append _ l r
+put_append picture (t ∷ l) r = put_append (sets picture (3 * t.place) (rgb_bytes t.bytes)) l r
 
 -- one place stored: the front with its bytes, and what is behind
 module _ (picture : List ℕ) (a : ℕ) (p : Rgb) (fits : 3 * a + 3 ≤ length picture) where
