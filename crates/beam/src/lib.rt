@@ -1,5 +1,6 @@
 // The beam goes on: the cycle, the line, the frame, and what a swap answers.
 #![tactic(auto)]
+
 ghost use Rattle.std.specs.Prelude.{◌≡◌, ◌<◌, ◌≤◌, ◌+◌};
 ghost use Rattle.hardware.specs.Screen.{line_cycles, frame_lines};
 ghost use Rattle.beam.specs.Advance.{swaps, onward, next_line, next_frame, advanced_beam, advanced_registers, whole};

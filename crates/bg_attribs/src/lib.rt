@@ -1,5 +1,6 @@
 // The attribute byte of a background tile.
 #![tactic(auto)]
+
 ghost use Rattle.std.specs.Prelude.{◌≡◌};
 ghost use Rattle.bg_attribs.specs.Attribute.{palette_number, bank_of, x_flip, y_flip, priority_of};
 

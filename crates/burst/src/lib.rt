@@ -1,5 +1,6 @@
 // The draws of a step, and the places that they store.
 #![tactic(auto)]
+
 ghost use Rattle.std.specs.Prelude.{◌≡◌, length};
 ghost use Rattle.hardware.specs.Screen.{picture_bytes};
 ghost use Rattle.hardware.specs.Tables.{vram_bytes};

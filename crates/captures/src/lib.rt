@@ -1,6 +1,7 @@
 // A line of a capture, read as a call of the unit, and a call printed as its line. What a line says is `reading`
 // (specs/Reading); a call's text is `printed` (specs/Printing). No line and no call is refused.
 #![tactic(auto)]
+
 ghost use Rattle.std.specs.Prelude.{◌≡◌, false, cond, ◌∷◌, ◌+◌, ◌≤◌, ◌<◌, min, length, get_or, take, drop};
 ghost use Rattle.io.specs.Counts.{IsPrefixLen};
 ghost use Rattle.texts.specs.Appended.{Appended};

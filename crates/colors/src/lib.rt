@@ -1,5 +1,6 @@
 // Colours: 15 bits a colour, eight palettes of four behind an index port, and the shades of a palette byte.
 #![tactic(auto)]
+
 ghost use Rattle.std.specs.Prelude.{◌≡◌, true, ◌<◌, ◌+◌, ◌*◌, ◌/◌, ◌%◌, set};
 ghost use Rattle.colors.specs.Colour.{colour_of, raw_of};
 ghost use Rattle.colors.specs.Shade.{shade};

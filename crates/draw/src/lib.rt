@@ -3,6 +3,7 @@
 // It stands in two halves, so that few bytes move: `prepare` changes the queues, and is called only where something joins them;
 // `draw` lets the front leave, and takes over only what that can change, which no slot of a queue is.
 #![tactic(auto)]
+
 ghost use Rattle.std.specs.Prelude.{◌≡◌, ◌<◌, ◌≤◌, length};
 ghost use Rattle.hardware.specs.Screen.{width};
 ghost use Rattle.hardware.specs.Tables.{vram_bytes};

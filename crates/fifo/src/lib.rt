@@ -1,5 +1,6 @@
 // The pixel queues: sixteen slots for the background, eight for sprites, each a ring with a head and a length.
 #![tactic(auto)]
+
 ghost use Rattle.std.specs.Prelude.{◌≡◌, ◌<◌, ◌≤◌};
 ghost use Rattle.fifo.specs.Background.{bg_fresh, bg_row, bg_pushed, bg_popped, bg_cleared};
 ghost use Rattle.fifo.specs.Sprites.{sprite_fresh, inked, over, inked_row, sprite_pushed, sprite_popped, sprite_cleared};

@@ -1,5 +1,6 @@
 // What a picture is filed as: the name of its file, and the file, with the texts that tell what it is.
 #![tactic(auto)]
+
 ghost use Rattle.std.specs.Prelude.{◌≡◌, map, ◌+◌, ◌≤◌, length, take, drop};
 ghost use Rattle.io.specs.Counts.{IsPrefixLen};
 ghost use Rattle.texts.specs.Appended.{Appended};

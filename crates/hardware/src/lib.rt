@@ -3,6 +3,7 @@
 // A hand-held, as a start fixes it and no later call changes it: the first one (DMG) or a later one, and whether colour
 // mode is wanted, which only a later one has.
 #![tactic(auto)]
+
 #[derive(Clone, Copy)]
 pub struct Machine {
     pub dmg: bool,

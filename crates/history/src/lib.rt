@@ -2,6 +2,7 @@
 // its answer and what it leaves are `number`, `answer` and `perform` of specs/Run. So what is proved of runs (specs/Demand) is
 // proved of the functions that a caller calls. Nothing is added to them.
 #![tactic(auto)]
+
 ghost use Rattle.hardware.specs.Tables.{tables};
 ghost use Rattle.lcd.specs.Pictures.{pictures};
 ghost use Rattle.history.specs.Public.{world, Started, Stepped, Writes, Reads, WritesVram, WritesOam, Colours};

@@ -1,5 +1,6 @@
 // The display: the colour mix, and two pictures of three bytes a place.
 #![tactic(auto)]
+
 ghost use Rattle.std.specs.Prelude.{◌≡◌, ◌<◌, ◌≤◌, length, replicate};
 ghost use Rattle.hardware.specs.Screen.{width, height, picture_bytes, offset};
 ghost use Rattle.lcd.specs.Mix.{quarter, mix};

@@ -1,6 +1,7 @@
 // Request 12: writes and reads of VRAM and OAM behind the lock of Pan Docs, beside the old writes, which no mode stops. No call asks
 // anything of its caller. `ppu` hands them on.
 #![tactic(auto)]
+
 ghost use Rattle.std.specs.Prelude.{◌≡◌};
 ghost use Rattle.locks.specs.Closed.{closed};
 ghost use Rattle.locks.specs.Calls.{LockedVramWrite, LockedOamWrite, seen, locked_vram_read, locked_oam_read};

@@ -1,5 +1,6 @@
 // The lent memory: the start, writes to VRAM and OAM, reads of OAM.
 #![tactic(auto)]
+
 ghost use Rattle.std.specs.Prelude.{◌≡◌, ◌<◌, ◌≤◌, ◌%◌, length};
 ghost use Rattle.hardware.specs.Tables.{tables, vram_bytes, oam_bytes};
 ghost use Rattle.lcd.specs.Pictures.{pictures};

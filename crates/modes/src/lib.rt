@@ -1,5 +1,6 @@
 // The modes of a step: which begins, the STAT level by the mode held, the search of a line, and the comparison of LY.
 #![tactic(auto)]
+
 ghost use Rattle.std.specs.Prelude.{◌≡◌, ◌<◌, length};
 ghost use Rattle.hardware.specs.Tables.{oam_bytes};
 ghost use Rattle.state.specs.With.{with_mode, with_coincidence};

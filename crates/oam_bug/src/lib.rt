@@ -1,5 +1,6 @@
 // The OAM corruption of mode 2: 20 rows of four words.
 #![tactic(auto)]
+
 ghost use Rattle.std.specs.Prelude.{◌≡◌, true, ◌+◌, ◌*◌, ◌<◌, ◌≤◌, length};
 ghost use Rattle.hardware.specs.Tables.{oam_bytes};
 ghost use Rattle.oam_bug.specs.Words.{oam_rows, word_place, word_of, with_word, with_row, row_from, row_copied};

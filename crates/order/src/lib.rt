@@ -1,5 +1,6 @@
 // Whether a state is in order: 01's sentence, clause by clause.
 #![tactic(auto)]
+
 ghost use Rattle.std.specs.Prelude.{◌≡◌};
 ghost use Rattle.order.specs.Order.{registers_order, palettes_order, row_order, fetcher_order, bg_order, sprite_order};
 ghost use Rattle.order.specs.Order.{selection_order, beam_order, mode_order, in_order, Judged};

@@ -1,5 +1,6 @@
 // The pipe of a draw: the entry to the window, the fetcher, and the row that goes into the background queue.
 #![tactic(auto)]
+
 ghost use Rattle.std.specs.Prelude.{◌≡◌, ◌≤◌, length};
 ghost use Rattle.hardware.specs.Tables.{vram_bytes};
 ghost use Rattle.pipe.specs.Window.{opened, reached, enters, discard_at, emptied, window_entered, windowed};

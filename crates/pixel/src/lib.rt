@@ -1,5 +1,6 @@
 // One pixel: the sprites that start at a place, and the mixer of background and sprite.
 #![tactic(auto)]
+
 ghost use Rattle.std.specs.Prelude.{◌≡◌, ◌<◌, ◌≤◌, length};
 ghost use Rattle.hardware.specs.Tables.{vram_bytes};
 ghost use Rattle.pixel.specs.Sprites.{tall_of, selector, ink_of, none_starts, sprite_added, sprites_added};

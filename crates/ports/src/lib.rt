@@ -1,6 +1,7 @@
 // The public calls that touch no picture, or only show one: reads and writes of the ports, VRAM and OAM, the colour flag, OAM
 // corruption, the picture shown, the pick; with their refusals. No call asks anything of its caller. `ppu` hands them on.
 #![tactic(auto)]
+
 ghost use Rattle.std.specs.Prelude.{◌≡◌};
 ghost use Rattle.sprite.specs.Pick.{pick_of};
 ghost use Rattle.ports.specs.Calls.{read_answer, colour_answer, VramWrite, OamWrite, OamBug, Shown};

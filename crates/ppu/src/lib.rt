@@ -2,6 +2,7 @@
 // picture or only show one in `ports`, the locked ones in `locks`. Their numbers are of the crate `terms`. No call asks anything of
 // its caller.
 #![tactic(auto)]
+
 ghost use Rattle.std.specs.Prelude.{◌≡◌};
 ghost use Rattle.hardware.specs.Tables.{tables};
 ghost use Rattle.lcd.specs.Pictures.{pictures};

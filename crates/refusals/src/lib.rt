@@ -1,5 +1,6 @@
 // The ladder of refusals: of 01's numbers the lowest that applies, 0 for done.
 #![tactic(auto)]
+
 ghost use Rattle.std.specs.Prelude.{◌≡◌};
 ghost use Rattle.refusals.specs.Ladder.{lowest, own, first};
 

@@ -1,5 +1,6 @@
 // The registers: which can be written, what a write and a read do, blanking, and the colour flag.
 #![tactic(auto)]
+
 ghost use Rattle.std.specs.Prelude.{◌≡◌, cond, true, ◌<◌, ◌≤◌, ◌+◌, ◌%◌};
 ghost use Rattle.lcd.specs.Pictures.{pictures};
 ghost use Rattle.order.specs.Fine.{SetFine, PalettesFine};

@@ -1,5 +1,6 @@
 // Answers a list of requests to the picture unit: eight bytes in, sixteen bytes out, to the end of the input.
 #![tactic(auto)]
+
 mod desk;
 
 ghost use Rattle.std.specs.Prelude.{◌≤◌};

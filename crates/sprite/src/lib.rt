@@ -1,5 +1,6 @@
 // Sprites: an entry of OAM, and the search of a line for the ten to draw.
 #![tactic(auto)]
+
 ghost use Rattle.std.specs.Prelude.{◌≡◌, ◌<◌, ◌*◌, ◌+◌, length, get_or, set};
 ghost use Rattle.hardware.specs.Tables.{oam_bytes};
 ghost use Rattle.sprite.specs.Oam.{entry, screen_y, screen_x, in_range, entry_bytes, moved_left};

@@ -1,6 +1,7 @@
 // Reads OAM, how tall sprites are and edits of OAM from standard input, and prints which sprites touch which line after them. An
 // edit is two bytes: the low byte of an address, and a value.
 #![tactic(auto)]
+
 ghost use Rattle.std.specs.Prelude.{◌≡◌, true, ◌≤◌, ◌/◌, length, take, OnOk};
 ghost use Rattle.hardware.specs.Tables.{oam_bytes};
 ghost use Rattle.sprite.specs.Pick.{is_tall};

@@ -1,5 +1,6 @@
 // The state of the machine, in small groups.
 #![tactic(auto)]
+
 use bg_attribs::BgAttribute;
 use colors::PaletteSet;
 use fifo::{BgFifo, SpriteFifo};

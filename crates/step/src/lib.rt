@@ -1,5 +1,6 @@
 // One step: the mode that begins, the draws with their places, the STAT level, the beam, and the answer.
 #![tactic(auto)]
+
 ghost use Rattle.std.specs.Prelude.{◌≡◌, not, ◌&&◌, ◌<◌, ◌≤◌, ◌+◌, length};
 ghost use Rattle.hardware.specs.Screen.{line_cycles, frame_lines};
 ghost use Rattle.hardware.specs.Tables.{vram_bytes, tables};

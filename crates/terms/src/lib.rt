@@ -1,6 +1,7 @@
 // The terms of the public calls: whether what is lent, the state and the other arguments are within 01's table, and the number
 // of each call. No function asks anything of its caller.
 #![tactic(auto)]
+
 ghost use Rattle.std.specs.Prelude.{◌≡◌, true, ◌&&◌};
 ghost use Rattle.hardware.specs.Tables.{tables, tables_fit};
 ghost use Rattle.lcd.specs.Pictures.{pictures, pictures_fit};

@@ -1,5 +1,6 @@
 // Bytes put into a slice one behind the other, and numbers as text. Each function that puts answers the place behind what it put.
 #![tactic(auto)]
+
 ghost use Rattle.std.specs.Prelude.{◌≡◌, [], ◌∷◌, ◌+◌, ◌≤◌, ◌<◌, length};
 ghost use Rattle.texts.specs.Appended.{Appended};
 ghost use Rattle.texts.specs.Numbers.{digits, decimal};

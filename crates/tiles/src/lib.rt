@@ -1,5 +1,6 @@
 // Tile rows out of VRAM, each with where it was read: the background's by the map, and the sprites'.
 #![tactic(auto)]
+
 ghost use Rattle.std.specs.Prelude.{◌≡◌, reverse, ◌<◌, ◌≤◌, length};
 ghost use Rattle.hardware.specs.Tables.{bank_bytes, vram_bytes};
 ghost use Rattle.tiles.specs.Tile.{byte_at, colour_in, row_of, mirrored, tile_address};

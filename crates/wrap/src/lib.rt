@@ -1,5 +1,6 @@
 // Arithmetic modulo 256, and the bits of a byte by their place.
 #![tactic(auto)]
+
 ghost use Rattle.std.specs.Prelude.{◌≡◌, ◌<◌};
 ghost use Rattle.wrap.specs.Wrap.{minus, digit_at, bit_at};
 

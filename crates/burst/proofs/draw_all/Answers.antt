@@ -63,9 +63,9 @@ made c =
     let v = c.args.vram.now in
     let s = c.loop-k.state in
     elim c.if-does_join.branch [
-      then-does_join w ↦ w.state-is ∙ ap (with_pipe s) w.prepare-pipe.ensures
-    | else-does_join w ↦
-        w.state-is ∙ ap (with_pipe s) (w.wait-pipe.ensures ∙ sym (prepared_none v s (sym c.does_join.ensures ∙ w.if-does_join.false)))
+      | then-does_join w ↦ w.state-is ∙ ap (with_pipe s) w.prepare-pipe.ensures
+      | else-does_join w ↦
+          w.state-is ∙ ap (with_pipe s) (w.wait-pipe.ensures ∙ sym (prepared_none v s (sym c.does_join.ensures ∙ w.if-does_join.false)))
     ]
 
 pub returns-then-state-ne3 : goal.returns-then-state-ne3

@@ -84,18 +84,18 @@ search-preserved c =
     let e = c.at-sprite.ensures in
     let r = c.in_range.ensures in
     elim c.if-in_range.branch [
-      then-in_range+else-count-eq10 w ↦
-        (omega arith, omega (arith, w.count-is), rw (w.slots-is, w.count-is) (holds_in (omega (arith, c.well_formed)) e r w.if-in_range.true c.search.invariant.2))
-    | else-in_range w ↦
-        (omega arith, omega (arith, w.count-is), rw (w.slots-is, w.count-is) (holds_out e r w.if-in_range.false c.search.invariant.2))
+      | then-in_range+else-count-eq10 w ↦
+          (omega arith, omega (arith, w.count-is), rw (w.slots-is, w.count-is) (holds_in (omega (arith, c.well_formed)) e r w.if-in_range.true c.search.invariant.2))
+      | else-in_range w ↦
+          (omega arith, omega (arith, w.count-is), rw (w.slots-is, w.count-is) (holds_out e r w.if-in_range.false c.search.invariant.2))
     ]
 
 pub returns : goal.returns
 returns c =
     elim c.search-test.branch [
-      else-search-test w ↦
-        rw (w.slots-is, w.count-is) (holds_all (omega (arith, w.search-test)) (omega arith) c.search.invariant.2)
-    | then-search-test+then-in_range+then-count-eq10 w ↦
-        rw (w.slots-is, w.count-is)
-        (holds_ten (omega (arith, w.search-test)) w.if-count-eq10.true (holds_in (omega (arith, c.well_formed)) w.at-sprite.ensures w.in_range.ensures w.if-in_range.true c.search.invariant.2))
+      | else-search-test w ↦
+          rw (w.slots-is, w.count-is) (holds_all (omega (arith, w.search-test)) (omega arith) c.search.invariant.2)
+      | then-search-test+then-in_range+then-count-eq10 w ↦
+          rw (w.slots-is, w.count-is)
+          (holds_ten (omega (arith, w.search-test)) w.if-count-eq10.true (holds_in (omega (arith, c.well_formed)) w.at-sprite.ensures w.in_range.ensures w.if-in_range.true c.search.invariant.2))
     ]

@@ -14,11 +14,11 @@ begins_at : (c : Joined-may_begin) → Begun c.args.oam.now c.args.s c.if-may_be
 begins_at c =
     let f = c.requires.0.fine in
     elim c.if-may_begin.branch [
-      then-may_begin w ↦
-        rw (w.held-is, w.n-is, w.mode_level-held-then-may_begin.ensures, w.search-n.ensures, w.enter_mode-n.ensures)
-        (begun_tried _ _ f (sym c.may_begin.ensures ∙ w.if-may_begin.true))
-    | else-may_begin w ↦
-        rw (w.held-is, w.n-is, c.mode_level-held.ensures) (begun_none _ _ f (sym c.may_begin.ensures ∙ w.if-may_begin.false))
+      | then-may_begin w ↦
+          rw (w.held-is, w.n-is, w.mode_level-held-then-may_begin.ensures, w.search-n.ensures, w.enter_mode-n.ensures)
+          (begun_tried _ _ f (sym c.may_begin.ensures ∙ w.if-may_begin.true))
+      | else-may_begin w ↦
+          rw (w.held-is, w.n-is, c.mode_level-held.ensures) (begun_none _ _ f (sym c.may_begin.ensures ∙ w.if-may_begin.false))
     ]
 
 -- what stands before the end, drawn or not
@@ -29,11 +29,11 @@ stands c begun =
     let t = tables c.args.vram.now c.args.oam.now in
     let p = pictures c.args.a.now c.args.b.now in
     elim c.if-does_draw.branch [
-      then-does_draw w ↦
-        rw (w.a-is, w.b-is, w.n-is)
-        (before_drawn c.args.cycles t p begun (sym c.does_draw.ensures ∙ w.if-does_draw.true) w.draw_hidden-n.ensures)
-    | else-does_draw w ↦
-        rw (w.a-is, w.b-is, w.n-is) (before_still c.args.cycles t p begun (sym c.does_draw.ensures ∙ w.if-does_draw.false))
+      | then-does_draw w ↦
+          rw (w.a-is, w.b-is, w.n-is)
+          (before_drawn c.args.cycles t p begun (sym c.does_draw.ensures ∙ w.if-does_draw.true) w.draw_hidden-n.ensures)
+      | else-does_draw w ↦
+          rw (w.a-is, w.b-is, w.n-is) (before_still c.args.cycles t p begun (sym c.does_draw.ensures ∙ w.if-does_draw.false))
     ]
 
 pub draw_hidden-n-requires : goal.draw_hidden-n-requires

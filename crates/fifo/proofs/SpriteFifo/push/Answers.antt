@@ -82,10 +82,10 @@ pub loop-k-preserved : goal.loop-k-preserved
 loop-k-preserved c =
     let eight : length c.args.colors ≡ 8 = omega (arith, c.well_formed) in
     elim c.if-k-len.branch [
-      then-k-len w ↦
-        (omega arith, rw w.pixels-is (mixing_over c.args.coord c.args.self c.args.ink c.args.colors eight c.requires c.loop-k.k (omega arith) c.loop-k.invariant.1 c.inked-new.ensures w.if-k-len.true w.over.ensures))
-    | else-k-len w ↦
-        (omega arith, rw w.pixels-is (mixing_new c.args.coord c.args.self c.args.ink c.args.colors eight c.requires c.loop-k.k (omega arith) c.loop-k.invariant.1 c.inked-new.ensures w.if-k-len.false))
+      | then-k-len w ↦
+          (omega arith, rw w.pixels-is (mixing_over c.args.coord c.args.self c.args.ink c.args.colors eight c.requires c.loop-k.k (omega arith) c.loop-k.invariant.1 c.inked-new.ensures w.if-k-len.true w.over.ensures))
+      | else-k-len w ↦
+          (omega arith, rw w.pixels-is (mixing_new c.args.coord c.args.self c.args.ink c.args.colors eight c.requires c.loop-k.k (omega arith) c.loop-k.invariant.1 c.inked-new.ensures w.if-k-len.false))
     ]
 
 pub returns : goal.returns
