@@ -1,5 +1,5 @@
 -- The two halves of a draw are the draw, and the second changes no slot. Where nothing joins, the first is one cycle of the delay.
-use Rattle.std.proofs.Common.{◌≡◌, ℕ, ◌+◌, ◌-◌, ◌<◌, Bool, true, false, cond, not, ◌&&◌, ◌||◌, eqb, leb, List, sym, refl, ap, ◌∙◌, true≢false, arith, ne_eqb, leb-false}
+use Rattle.std.proofs.Common.{◌≡◌, ℕ, ◌+◌, ◌-◌, ◌<◌, Bool, true, false, cond, not, ◌||◌, eqb, leb, List, sym, refl, ap, ◌∙◌, true≢false, arith, ne_eqb, leb-false}
 use borrow.Author.Tests.{not-false}
 use Rattle.logic.proofs.Tests.{by_test}
 use Rattle.logic.proofs.Both.{neither}
@@ -17,7 +17,7 @@ use Rattle.state.specs.declared.Pipe.{Pipe}
 use Rattle.state.specs.declared.State.{State}
 use Rattle.pipe.specs.Window.{opened, enters, windowed}
 use Rattle.pipe.specs.Fetching.{waited, fetched_pipe, fed_by, fed}
-use Rattle.order.specs.Fine.{SelectionFine, PipeFine, Fine}
+use Rattle.order.specs.Fine.{SelectionFine, PipeFine}
 use Rattle.draw.specs.Draw.{spot, fed_pipe, discarded, ready, pixel_bytes, after_pixel, next_state, end_state, idle_drawn, discard_drawn, shifted, drawn}
 use Rattle.draw.specs.Halves.{gives, joined, prepared, waits, joins, both_popped, front_drawn, leaves, taken_over}
 use Rattle.draw.specs.declared.Drawn.{Drawn}

@@ -1,7 +1,7 @@
 -- Laws of a ring of slots, over its size and what the slots hold.
 use mathlib.Core.Path.{◌≡◌, refl, ap, sym, ◌∙◌}
 use mathlib.Core.Bool.{Bool, true, false}
-use mathlib.Core.List.{List, [], ◌∷◌, ◌++◌, map, append_assoc, append-nil}
+use mathlib.Core.List.{List, [], ◌∷◌, ◌++◌, append_assoc, append-nil}
 use Prim.Native.Nat.{ℕ, zero, suc, ◌+◌, ◌-◌, ◌%◌, ◌≤◌, ◌<◌}
 use native.Mathlib.Nat.{suc-add, add-suc, add-zero, mod-lt, mod-mod, mod-add-mod, mod-eq_of_lt, mod-eq-sub-mod, suc-mod}
 use native.Mathlib.Numerals.{add-one}

@@ -1,9 +1,9 @@
 -- The table of registers: `OneTable` of specs/Table; and an address is listed exactly if bits of a write to it are kept.
 use Prim.Native.Nat.{ℕ}
-use mathlib.Core.Path.{◌≡◌, refl, sym, ◌∙◌}
+use mathlib.Core.Path.{◌≡◌, refl, sym}
 use mathlib.Core.Bool.{Bool, true, false, true≢false, not, cond, ◌||◌}
 use mathlib.Core.List.{List, [], ◌∷◌}
-use borrow.Author.Tests.{eqb-true, eqb-false, ne_eqb}
+use borrow.Author.Tests.{eqb-false, ne_eqb}
 use lib.Dec.{eqb}
 use Rattle.logic.specs.Every.{every}
 use Rattle.logic.proofs.Both.{first, second}
@@ -12,7 +12,7 @@ use Rattle.state.specs.declared.Palettes.{Palettes}
 use Rattle.registers.specs.declared.Writable.{Writable}
 use Rattle.registers.specs.Registers.{writable, kept_in, kept_bits, listed_in, listed}
 use Rattle.registers.specs.Write.{registers_written, port_written, palettes_written}
-use Rattle.registers.specs.Table.{distinct, total, reaches, OneTable}
+use Rattle.registers.specs.Table.{distinct, total, OneTable}
 
 -- an entry keeps some bits
 abbrev keeps : Writable → Bool

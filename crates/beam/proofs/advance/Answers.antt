@@ -1,7 +1,6 @@
 -- `beam::advance` meets its contract.
 use borrow.Author.Tests.{eq-eqb, ne_eqb}
 use Rattle.beam.specs.Advance.{advanced_beam}
-use borrow.Author.Rules.{rules}
 use Rattle.beam.proofs.advance.Goals as goal
 
 pub returns-then-b-cycles-ne-LINE_CYCLES : goal.returns-then-b-cycles-ne-LINE_CYCLES

@@ -1,7 +1,6 @@
 -- `beam::is_whole` meets its contract.
 use Rattle.logic.proofs.Tests.{failed, passed}
 use Rattle.beam.specs.Advance.{whole}
-use borrow.Author.Rules.{rules}
 use Rattle.beam.proofs.is_whole.Goals as goal
 
 pub returns-then-not-does_swap : goal.returns-then-not-does_swap

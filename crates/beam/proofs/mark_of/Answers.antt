@@ -1,7 +1,6 @@
 -- `beam::mark_of` meets its contract.
 use Rattle.logic.proofs.Tests.{failed, passed}
 use Rattle.beam.specs.Marks.{mark_of}
-use borrow.Author.Rules.{rules}
 use Rattle.beam.proofs.mark_of.Goals as goal
 
 pub returns-then-not-is_whole : goal.returns-then-not-is_whole

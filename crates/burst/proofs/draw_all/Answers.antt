@@ -1,14 +1,10 @@
 -- `burst::draw_all` meets its contract. The loop's invariant: what is left of the run goes on from the state and the picture reached.
 use mathlib.Core.Path.{◌≡◌, sym, ap, ◌∙◌}
 use mathlib.Core.List.{List}
-use mathlib.Core.Logic.{⊎_elim}
 use Prim.Native.Nat.{ℕ, suc, ◌+◌, ◌-◌, ◌≤◌, ◌<◌}
 use native.Mathlib.Omega.{arith}
-use lib.ListN.{length}
-use Rattle.hardware.specs.Screen.{picture_bytes}
 use Rattle.state.specs.With.{mode_of, with_pipe}
 use Rattle.state.specs.declared.State.{State}
-use Rattle.order.specs.Fine.{Fine}
 use Rattle.pipe.specs.Window.{opened}
 use Rattle.draw.specs.Draw.{drawn}
 use Rattle.draw.specs.Halves.{prepared}

@@ -1,21 +1,12 @@
 -- `burst::draw_all` meets its contract. The loop's invariant: what is left of the run goes on from the state and the picture reached.
-use mathlib.Core.Path.{◌≡◌, sym, ap, ◌∙◌}
+use mathlib.Core.Path.{◌≡◌}
 use mathlib.Core.List.{List}
-use mathlib.Core.Logic.{⊎_elim}
-use Prim.Native.Nat.{ℕ, suc, ◌+◌, ◌-◌, ◌≤◌, ◌<◌}
-use native.Mathlib.Omega.{arith}
+use Prim.Native.Nat.{ℕ, ◌-◌, ◌≤◌}
 use lib.ListN.{length}
 use Rattle.hardware.specs.Screen.{picture_bytes}
-use Rattle.state.specs.With.{mode_of, with_pipe}
 use Rattle.state.specs.declared.State.{State}
 use Rattle.order.specs.Fine.{Fine}
-use Rattle.pipe.specs.Window.{opened}
-use Rattle.draw.specs.Draw.{drawn}
-use Rattle.draw.specs.Halves.{prepared}
-use Rattle.draw.proofs.Fine.{drawn_fine}
-use Rattle.draw.proofs.Halves.{halves_drawn, delay_left, prepared_none, prepared_fine}
-use Rattle.burst.specs.Burst.{Burst, burst, shot_stored, all_stored, Drew}
-use Rattle.burst.proofs.Ways.{drawn_on_screen, shot_length, burst_in, burst_out, burst_none}
+use Rattle.burst.specs.Burst.{burst, all_stored}
 use Rattle.burst.proofs.draw_all.Given as goal
 
 -- after k draws of n: the state and the picture, from which the others go on

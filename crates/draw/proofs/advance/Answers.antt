@@ -1,6 +1,5 @@
 -- `draw::advance` meets its contract.
 use Rattle.draw.specs.Draw.{fed_pipe}
-use Rattle.std.proofs.Common.{rules}
 use Rattle.draw.proofs.advance.Goals as goal
 
 pub returns : goal.returns

@@ -1,5 +1,5 @@
 -- `draw::after_pixel` meets its contract.
-use Rattle.std.proofs.Common.{rules, eq-eqb, ne_eqb}
+use Rattle.std.proofs.Common.{eq-eqb, ne_eqb}
 use Rattle.draw.specs.Draw.{after_pixel}
 use Rattle.draw.proofs.after_pixel.Goals as goal
 

@@ -1,5 +1,5 @@
 -- `draw::does_join` meets its contract.
-use Rattle.std.proofs.Common.{◌≡◌, sym, ◌∙◌, rules, le-leb}
+use Rattle.std.proofs.Common.{sym, ◌∙◌, le-leb}
 use mathlib.Core.Bool.{or-true}
 use borrow.Author.Tests.{lt-leb}
 use Rattle.draw.specs.Halves.{joins}

@@ -1,5 +1,4 @@
 -- `draw::draw` meets its contract.
-use Rattle.std.proofs.Common.{rules}
 use Rattle.draw.proofs.Halves.{taken_over_law}
 use Rattle.draw.proofs.draw.Goals as goal
 

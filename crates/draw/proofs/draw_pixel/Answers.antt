@@ -1,7 +1,6 @@
 -- `draw::draw_pixel` meets its contract.
 use Rattle.draw.proofs.Fine.{front_coloured}
 use Rattle.pixel.proofs.Added.{popped_coloured}
-use Rattle.std.proofs.Common.{rules}
 use Rattle.draw.proofs.draw_pixel.Goals as goal
 
 pub mixer-color-requires : goal.mixer-color-requires

@@ -1,5 +1,5 @@
 -- `draw::prepare` meets its contract.
-use Rattle.std.proofs.Common.{rules, eq-eqb, ne_eqb, le-leb}
+use Rattle.std.proofs.Common.{eq-eqb, ne_eqb, le-leb}
 use borrow.Author.Tests.{lt-leb}
 use mathlib.Core.Bool.{and-false}
 use Rattle.draw.specs.Draw.{ready}

@@ -1,5 +1,5 @@
 -- `draw::shift` meets its contract.
-use Rattle.std.proofs.Common.{arith, rules, eq-eqb, ne_eqb, le-leb}
+use Rattle.std.proofs.Common.{eq-eqb, ne_eqb, le-leb}
 use borrow.Author.Tests.{lt-leb}
 use Rattle.draw.specs.Halves.{leaves}
 use Rattle.draw.proofs.shift.Goals as goal

@@ -1,11 +1,8 @@
 -- `lcd::fill` meets its contract. The invariant: the first i bytes are v, and the rest is as it was.
-use mathlib.Core.Path.{◌≡◌, ◌∙◌}
-use mathlib.Core.List.{◌++◌, append-nil}
+use mathlib.Core.Path.{◌≡◌}
+use mathlib.Core.List.{◌++◌}
 use Prim.Native.Nat.{◌≤◌, ◌-◌}
-use native.Mathlib.Omega.{arith}
-use borrow.Author.Fill.{fill_none, fill_more}
-use lib.ListN.{length, replicate, drop, length-set}
-use lib.Seq.{drop-length}
+use lib.ListN.{length, replicate, drop}
 use Rattle.lcd.proofs.fill.Given as goal
 
 abbrev pub invariant-loop-i : goal.invariant-loop-i

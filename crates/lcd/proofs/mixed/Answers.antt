@@ -2,7 +2,6 @@
 use mathlib.Core.Path.{◌≡◌, ◌∙◌}
 use Prim.Native.Nat.{ℕ, ◌+◌, ◌*◌, ◌<◌}
 use native.Mathlib.Omega.{arith}
-use borrow.Author.Rules.{rules}
 use Rattle.lcd.specs.Mix.{mix}
 use Rattle.lcd.proofs.Shifts.{Shifts, ◌≪◌, ◌⊕◌, computed, shifts_are_products}
 use Rattle.lcd.proofs.mixed.Goals as goal

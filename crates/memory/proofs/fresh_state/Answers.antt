@@ -1,6 +1,5 @@
 -- `memory::fresh_state` meets its contract.
 use Rattle.memory.specs.Fresh.{fresh_state}
-use borrow.Author.Rules.{rules}
 use Rattle.memory.proofs.fresh_state.Goals as goal
 
 pub returns : goal.returns

@@ -1,7 +1,6 @@
 -- `modes::does_render` meets its contract.
 use borrow.Author.Tests.{lt-ltb, le-ltb}
 use Rattle.modes.specs.Modes.{renders}
-use borrow.Author.Rules.{rules}
 use Rattle.modes.proofs.does_render.Goals as goal
 
 pub returns-then-b-ge-HEIGHT : goal.returns-then-b-ge-HEIGHT

@@ -3,7 +3,6 @@ use borrow.Author.Tests.{ne_eqb}
 use mathlib.Core.Bool.{◌&&◌, or-false, and-false, and-true}
 use lib.Dec.{ltb}
 use Rattle.modes.specs.Modes.{scans}
-use borrow.Author.Rules.{rules}
 use Rattle.modes.proofs.does_scan.Goals as goal
 
 pub returns-then-b-eq0 : goal.returns-then-b-eq0

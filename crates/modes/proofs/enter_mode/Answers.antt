@@ -1,7 +1,6 @@
 -- `modes::enter_mode` meets its contract.
 use mathlib.Core.Path.{sym, ◌∙◌}
 use Rattle.modes.specs.Modes.{entered}
-use borrow.Author.Rules.{rules}
 use Rattle.modes.proofs.enter_mode.Goals as goal
 
 pub returns-then-does_scan : goal.returns-then-does_scan

@@ -2,7 +2,6 @@
 use mathlib.Core.Path.{sym, ◌∙◌}
 use borrow.Author.Tests.{eq-eqb, ne_eqb}
 use Rattle.modes.specs.Modes.{level_of}
-use borrow.Author.Rules.{rules}
 use Rattle.modes.proofs.level_of.Goals as goal
 
 pub returns-then-held : goal.returns-then-held

@@ -1,7 +1,6 @@
 -- `modes::mode_level` meets its contract.
 use borrow.Author.Tests.{eq-eqb, ne_eqb}
 use Rattle.modes.specs.Modes.{mode_level}
-use borrow.Author.Rules.{rules}
 use Rattle.modes.proofs.mode_level.Goals as goal
 
 pub returns-then-mode-eq0 : goal.returns-then-mode-eq0

@@ -1,7 +1,6 @@
 -- `modes::search` meets its contract.
 use borrow.Author.Tests.{eq-eqb, ne_eqb}
 use Rattle.modes.specs.Modes.{searched}
-use borrow.Author.Rules.{rules}
 use Rattle.modes.proofs.search.Goals as goal
 
 pub returns-then-s-ne2 : goal.returns-then-s-ne2

@@ -1,5 +1,4 @@
 -- `oam_bug::copy_row` meets its contract.
-use borrow.Author.Rules.{rules}
 use Rattle.oam_bug.specs.Words.{row_copied}
 use Rattle.oam_bug.proofs.copy_row.Goals as goal
 

@@ -2,7 +2,6 @@
 use Prim.Native.Nat.{ℕ}
 use native.Mathlib.Omega.{arith}
 use borrow.Author.Tests.{lt-ltb, le-ltb}
-use borrow.Author.Rules.{rules}
 use Rattle.oam_bug.specs.Corruption.{around_corrupted}
 use Rattle.oam_bug.proofs.corrupt_around.Goals as goal
 

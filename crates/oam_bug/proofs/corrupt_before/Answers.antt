@@ -1,5 +1,4 @@
 -- `oam_bug::corrupt_before` meets its contract.
-use borrow.Author.Rules.{rules}
 use Rattle.oam_bug.specs.Corruption.{before_corrupted}
 use Rattle.oam_bug.proofs.corrupt_before.Goals as goal
 

@@ -1,6 +1,5 @@
 -- `oam_bug::corrupt_read` meets its contract.
 use borrow.Author.Tests.{eq-eqb, ne_eqb}
-use borrow.Author.Rules.{rules}
 use Rattle.oam_bug.specs.Corruption.{read_corrupted}
 use Rattle.oam_bug.proofs.corrupt_read.Goals as goal
 

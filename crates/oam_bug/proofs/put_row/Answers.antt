@@ -1,5 +1,4 @@
 -- `oam_bug::put_row` meets its contract.
-use borrow.Author.Rules.{rules}
 use Rattle.oam_bug.specs.Words.{with_row}
 use Rattle.oam_bug.proofs.put_row.Goals as goal
 

@@ -1,5 +1,4 @@
 -- `oam_bug::row_from` meets its contract.
-use borrow.Author.Rules.{rules}
 use Rattle.oam_bug.specs.Words.{row_from}
 use Rattle.oam_bug.proofs.row_from.Goals as goal
 

@@ -1,5 +1,4 @@
 -- `oam_bug::spread_before` meets its contract.
-use borrow.Author.Rules.{rules}
 use Rattle.oam_bug.specs.Corruption.{spread}
 use Rattle.oam_bug.proofs.spread_before.Goals as goal
 

@@ -1,11 +1,9 @@
 -- `order::bg_in_order` meets its contract. The invariant: the answer is that of the queued pixels from k on.
 use Prim.Native.Nat.{◌-◌}
-use native.Mathlib.Omega.{arith}
-use borrow.Author.Tests.{le-leb, lt-leb}
 use Rattle.fifo.specs.Ring.{live}
 use Rattle.fifo.specs.Background.{bg_blank}
 use Rattle.order.specs.Order.{bg_pixel_order}
-use Rattle.order.proofs.Tested.{Tested, left_start, ring_more, ring_fails, ring_end}
+use Rattle.order.proofs.Tested.{Tested}
 use Rattle.order.proofs.bg_in_order.Given as goal
 
 abbrev pub invariant-loop-k : goal.invariant-loop-k

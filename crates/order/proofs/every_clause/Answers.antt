@@ -1,5 +1,4 @@
 -- `order::every_clause` meets its contract, from what each part's test ensures.
-use borrow.Author.Rules.{rules}
 use mathlib.Core.Path.{◌≡◌}
 use mathlib.Core.Bool.{Bool, true, false, not, ◌&&◌}
 use borrow.Author.Tests.{not-true, not-false}

@@ -1,10 +1,8 @@
 -- `order::row_in_order` meets its contract. The invariant: the answer is that of the colours from k on.
 use mathlib.Core.Path.{refl}
-use Prim.Native.Nat.{◌-◌}
 use native.Mathlib.Omega.{arith}
 use borrow.Author.Tests.{le-leb, lt-leb}
-use Rattle.order.specs.Order.{colour_order}
-use Rattle.order.proofs.Tested.{Tested, left_start, left_more, left_fails, left_end}
+use Rattle.order.proofs.Tested.{left_more, left_fails, left_end}
 use Rattle.order.proofs.row_in_order.Goals as goal
 
 pub returns-then-row-k-gt3 : goal.returns-then-row-k-gt3

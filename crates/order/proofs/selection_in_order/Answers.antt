@@ -1,10 +1,6 @@
 -- `order::selection_in_order` meets its contract. The invariant: the answer is that of the selected slots from k on.
-use Prim.Native.Nat.{◌-◌, ◌≤◌}
-use native.Mathlib.Omega.{arith}
 use borrow.Author.Tests.{le-leb, lt-leb}
-use lib.ListN.{length, take, length-map}
-use Rattle.order.specs.Order.{slot_order}
-use Rattle.order.proofs.Tested.{Tested, left_start, taken_more, taken_fails, taken_end}
+use Rattle.order.proofs.Tested.{taken_more, taken_fails, taken_end}
 use Rattle.order.proofs.selection_in_order.Goals as goal
 
 pub returns-then-slot-gt39 : goal.returns-then-slot-gt39

@@ -1,12 +1,10 @@
 -- `order::sprite_in_order` meets its contract. The invariant: the answer is that of the queued pixels from k on.
-use Prim.Native.Nat.{◌+◌, ◌-◌, ◌%◌}
+use Prim.Native.Nat.{◌+◌, ◌%◌}
 use native.Mathlib.Omega.{arith}
 use borrow.Author.Tests.{le-leb, lt-leb}
 use lib.ListN.{get_or}
-use Rattle.fifo.specs.Ring.{live}
 use Rattle.fifo.specs.Sprites.{sprite_blank}
-use Rattle.order.specs.Order.{sprite_pixel_order}
-use Rattle.order.proofs.Tested.{Tested, left_start, ring_more, ring_fails, ring_end}
+use Rattle.order.proofs.Tested.{ring_more, ring_fails, ring_end}
 use Rattle.order.proofs.sprite_in_order.Goals as goal
 
 pub returns-then-pixel-gt3 : goal.returns-then-pixel-gt3

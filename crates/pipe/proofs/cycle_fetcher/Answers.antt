@@ -4,7 +4,6 @@ use native.Mathlib.Omega.{arith}
 use borrow.Author.Tests.{eq-eqb, ne_eqb}
 use Rattle.tiles.proofs.Sources.{dropped}
 use Rattle.pipe.specs.Fetching.{fetched_pipe}
-use borrow.Author.Rules.{rules}
 use Rattle.pipe.proofs.cycle_fetcher.Goals as goal
 
 pub returns-then-p-gt1 : goal.returns-then-p-gt1

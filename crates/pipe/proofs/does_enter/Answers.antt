@@ -1,6 +1,5 @@
 -- `pipe::does_enter` meets its contract.
 use borrow.Author.Tests.{not-true, not-false}
-use borrow.Author.Rules.{rules}
 use Rattle.pipe.specs.Window.{enters}
 use Rattle.pipe.proofs.does_enter.Goals as goal
 

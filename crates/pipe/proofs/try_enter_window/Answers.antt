@@ -1,7 +1,6 @@
 -- `pipe::try_enter_window` meets its contract.
 use mathlib.Core.Path.{sym, ◌∙◌}
 use Rattle.pipe.specs.Window.{windowed}
-use borrow.Author.Rules.{rules}
 use Rattle.pipe.proofs.try_enter_window.Goals as goal
 
 pub returns-then-does_enter : goal.returns-then-does_enter

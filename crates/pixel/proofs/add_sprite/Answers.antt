@@ -1,12 +1,7 @@
 -- `pixel::add_sprite` meets its contract.
-use Prim.Native.Nat.{ℕ, ◌<◌}
-use native.Mathlib.Omega.{arith}
 use borrow.Author.Tests.{not-true, not-false}
-use borrow.Author.Rules.{rules}
-use Rattle.logic.proofs.Tests.{by_test}
-use Rattle.wrap.specs.Wrap.{bit_at}
 use Rattle.tiles.proofs.Sources.{dropped}
-use Rattle.pixel.specs.Sprites.{tall_of, sprite_added}
+use Rattle.pixel.specs.Sprites.{sprite_added}
 use Rattle.pixel.proofs.add_sprite.Goals as goal
 
 pub returns-then-not-starts_at : goal.returns-then-not-starts_at

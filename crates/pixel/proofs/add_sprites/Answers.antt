@@ -1,20 +1,8 @@
 -- `pixel::add_sprites` meets its contract. The invariant: k of the selected sprites are laid in, the others are left.
-use mathlib.Core.Path.{◌≡◌, refl, sym, subst, ◌∙◌}
-use mathlib.Core.List.{List, []}
-use Prim.Native.Nat.{ℕ, ◌+◌, ◌-◌, ◌≤◌, ◌<◌}
-use native.Mathlib.Numerals.{add-one}
 use native.Mathlib.Omega.{arith}
 use borrow.Author.Tests.{not-true, not-false}
-use borrow.Author.Rules.{rules}
-use lib.ListN.{length, get_or, take, drop, length-map}
-use lib.Seq.{drop-cons, drop-length, get_or-take, length-take-le}
-use Rattle.sprite.specs.declared.SelectedSprite.{SelectedSprite}
-use Rattle.fifo.specs.declared.SpriteFifo.{SpriteFifo}
-use Rattle.state.specs.declared.Registers.{Registers}
-use Rattle.state.specs.declared.Spot.{Spot}
-use Rattle.pixel.specs.Sprites.{sprite_added, all_added, sprites_added}
-use Rattle.pixel.proofs.Added.{added_len}
-use Rattle.pixel.proofs.add_sprites.Invariants.{Laying, left_all, left_more, left_none}
+use Rattle.pixel.specs.Sprites.{sprites_added}
+use Rattle.pixel.proofs.add_sprites.Invariants.{left_all, left_more}
 use Rattle.pixel.proofs.add_sprites.Goals as goal
 
 pub returns-then-not-bit : goal.returns-then-not-bit

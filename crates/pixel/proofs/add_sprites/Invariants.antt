@@ -3,16 +3,13 @@ use mathlib.Core.Path.{◌≡◌, refl, sym, subst, ◌∙◌}
 use mathlib.Core.List.{List, []}
 use Prim.Native.Nat.{ℕ, ◌+◌, ◌-◌, ◌≤◌, ◌<◌}
 use native.Mathlib.Numerals.{add-one}
-use native.Mathlib.Omega.{arith}
-use borrow.Author.Tests.{not-true, not-false}
-use borrow.Author.Rules.{rules}
-use lib.ListN.{length, get_or, take, drop, length-map}
+use lib.ListN.{length, get_or, take, drop}
 use lib.Seq.{drop-cons, drop-length, get_or-take, length-take-le}
 use Rattle.sprite.specs.declared.SelectedSprite.{SelectedSprite}
 use Rattle.fifo.specs.declared.SpriteFifo.{SpriteFifo}
 use Rattle.state.specs.declared.Registers.{Registers}
 use Rattle.state.specs.declared.Spot.{Spot}
-use Rattle.pixel.specs.Sprites.{sprite_added, all_added, sprites_added}
+use Rattle.pixel.specs.Sprites.{sprite_added, all_added}
 use Rattle.pixel.proofs.Added.{added_len}
 use Rattle.pixel.proofs.add_sprites.Given as goal
 

@@ -1,12 +1,7 @@
 -- `pixel::does_none_start` meets its contract. The invariant: the answer is that of the selected slots from i on.
 use mathlib.Core.Bool.{not}
 use mathlib.Core.Path.{sym, ◌∙◌, ap}
-use Prim.Native.Nat.{◌-◌, ◌≤◌}
-use native.Mathlib.Omega.{arith}
-use borrow.Author.Rules.{rules}
-use lib.ListN.{length, take, length-map}
-use Rattle.order.proofs.Tested.{Tested, left_start, taken_more, taken_fails, taken_end}
-use Rattle.pixel.specs.Sprites.{elsewhere}
+use Rattle.order.proofs.Tested.{taken_more, taken_fails, taken_end}
 use Rattle.pixel.proofs.does_none_start.Goals as goal
 
 pub returns-then-starts_at : goal.returns-then-starts_at

@@ -1,5 +1,4 @@
 -- `pixel::mixer` meets its contract.
-use borrow.Author.Rules.{rules}
 use Rattle.pixel.specs.Mixer.{seen}
 use Rattle.pixel.proofs.Added.{winner_coloured}
 use Rattle.pixel.proofs.mixer.Goals as goal

@@ -2,7 +2,6 @@
 use mathlib.Core.Path.{◌≡◌, refl}
 use mathlib.Core.Bool.{Bool, true, false, not, ◌&&◌, ◌||◌}
 use borrow.Author.Tests.{eq-eqb, ne_eqb}
-use borrow.Author.Rules.{rules}
 use Rattle.wrap.specs.Wrap.{bit_at}
 use Rattle.pixel.specs.Mixer.{wins}
 use Rattle.pixel.proofs.sprite_wins.Goals.{then-r+else-not-bit, else-r}

@@ -1,7 +1,6 @@
 -- `registers::read_register` meets its contract.
 use borrow.Author.Tests.{eq-eqb, ne_eqb}
 use Rattle.registers.specs.Write.{register_read}
-use borrow.Author.Rules.{rules}
 use Rattle.registers.proofs.read_register.Goals as goal
 
 pub returns-then-address-eq65384 : goal.returns-then-address-eq65384

@@ -1,7 +1,6 @@
 -- `registers::write_port` meets its contract.
 use borrow.Author.Tests.{eq-eqb, ne_eqb}
 use Rattle.registers.specs.Write.{port_written}
-use borrow.Author.Rules.{rules}
 use Rattle.registers.proofs.write_port.Goals as goal
 
 pub returns-then-address-port : goal.returns-then-address-port

@@ -1,7 +1,5 @@
 -- `registers::write_registers` meets its contract.
-use borrow.Author.Tests.{eqb-true}
 use Rattle.registers.specs.Write.{registers_written}
-use borrow.Author.Rules.{rules}
 use Rattle.registers.proofs.write_registers.Goals as goal
 
 pub returns : goal.returns

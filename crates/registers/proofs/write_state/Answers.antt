@@ -1,7 +1,6 @@
 -- `registers::write_state` meets its contract.
 use mathlib.Core.Path.{sym, ◌∙◌}
 use Rattle.registers.specs.Write.{state_written}
-use borrow.Author.Rules.{rules}
 use Rattle.registers.proofs.write_state.Goals as goal
 
 pub returns-then-does_blank : goal.returns-then-does_blank

@@ -1,5 +1,4 @@
 -- `sprite::pick_number` meets its contract.
-use borrow.Author.Rules.{rules}
 use Rattle.sprite.specs.Pick.{pick_number}
 use Rattle.sprite.proofs.pick_number.Goals as goal
 

@@ -1,20 +1,18 @@
 -- `sprite::select` meets its contract. The invariant: below i fewer than ten are in range, and the slots hold them.
 use mathlib.Core.Path.{◌≡◌, refl, ap, sym, ◌∙◌}
-use mathlib.Core.Bool.{Bool, true, false, cond}
+use mathlib.Core.Bool.{Bool, true, false}
 use mathlib.Core.List.{List, [], ◌∷◌, ◌++◌, append_assoc, append-nil}
 use Prim.Native.Nat.{ℕ, zero, suc, ◌+◌, ◌≤◌, ◌<◌, ◌-◌}
 use native.Mathlib.Nat.{zero-add, suc-add, sub-add_cancel}
 use native.Mathlib.Omega.{arith}
 use lib.ListN.{length, set, length-append}
 use lib.Seq.{take_at, take_all}
-use Rattle.sprite.specs.Pick.{up_to, those, lowest_ten, touches, slots_of, selection}
+use Rattle.sprite.specs.Pick.{up_to, those, lowest_ten, touches, selection}
 use Rattle.sprite.specs.Oam.{entry, in_range}
 use Rattle.sprite.specs.declared.Sprite.{Sprite}
 use Rattle.sprite.specs.declared.SelectedSprite.{SelectedSprite}
 use Rattle.sprite.specs.declared.Selection.{Selection}
-use mathlib.Core.Logic.{⊎_elim}
-use borrow.Author.Rules.{rules}
-use Rattle.sprite.proofs.Those.{up_to_more, those_append, those_in, those_out}
+use Rattle.sprite.proofs.Those.{those_append, those_in, those_out}
 use Rattle.sprite.proofs.Slots.{slots_more}
 use Rattle.sprite.proofs.select.Invariants.{Holds}
 use Rattle.sprite.proofs.select.Goals.{then-in_range+else-count-eq10, else-in_range, else-search-test, then-search-test+then-in_range+then-count-eq10}

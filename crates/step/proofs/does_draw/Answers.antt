@@ -1,5 +1,4 @@
 -- `step::does_draw` meets its contract.
-use borrow.Author.Rules.{rules}
 use Rattle.logic.proofs.Tests.{failed, passed}
 use Rattle.step.specs.End.{drawing}
 use Rattle.step.proofs.does_draw.Goals as goal

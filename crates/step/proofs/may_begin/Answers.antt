@@ -1,5 +1,4 @@
 -- `step::may_begin` meets its contract.
-use borrow.Author.Rules.{rules}
 use Rattle.logic.proofs.Tests.{failed, passed}
 use Rattle.step.specs.End.{starting}
 use Rattle.step.proofs.may_begin.Goals as goal

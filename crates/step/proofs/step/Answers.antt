@@ -1,10 +1,7 @@
 -- `step::step` meets its contract: the mode that begins, the draws, and the end.
-use mathlib.Core.Path.{◌≡◌, refl, sym, ap, ◌∙◌}
-use borrow.Author.Rules.{rules}
-use lib.ListN.{length}
+use mathlib.Core.Path.{sym, ◌∙◌}
 use Rattle.hardware.specs.Tables.{tables}
 use Rattle.lcd.specs.Pictures.{pictures}
-use Rattle.modes.specs.Modes.{mode_level}
 use Rattle.step.proofs.Ends.{Begun, begun_tried, begun_none, Before, before_drawn, before_still, taken_on, taken_off}
 use Rattle.step.proofs.step.Goals.{Joined-does_draw, Joined-may_begin, then-may_begin, else-may_begin, then-does_draw, else-does_draw}
 use Rattle.step.proofs.step.Goals as goal

@@ -1,7 +1,6 @@
 -- `tiles::bg_address` meets its contract.
 use Prim.Native.Nat.{ℕ, ◌<◌}
 use native.Mathlib.Omega.{arith}
-use borrow.Author.Rules.{rules}
 use borrow.Author.Tests.{ltb-true}
 use lib.Dec.{ltb}
 use Rattle.logic.proofs.Tests.{by_test}

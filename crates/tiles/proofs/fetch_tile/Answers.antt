@@ -1,7 +1,6 @@
 -- `tiles::fetch_tile` meets its contract.
 use mathlib.Core.Path.{◌≡◌, ap, ◌∙◌}
 use Prim.Native.Nat.{ℕ}
-use borrow.Author.Rules.{rules}
 use Rattle.bg_attribs.specs.declared.BgAttribute.{BgAttribute}
 use Rattle.tiles.specs.Sources.{pattern_row}
 use Rattle.tiles.specs.declared.TileRow.{TileRow}

@@ -1,8 +1,6 @@
 -- `tiles::pattern_of` meets its contract.
-use borrow.Author.Rules.{rules}
 use Rattle.tiles.specs.Map.{pattern}
 use Rattle.tiles.specs.Sources.{pattern_row}
-use Rattle.tiles.proofs.Rows.{in_bank_law}
 use Rattle.tiles.proofs.pattern_of.Goals as goal
 
 pub returns : goal.returns

@@ -1,5 +1,4 @@
 -- `tiles::row_of` meets its contract.
-use borrow.Author.Rules.{rules}
 use Rattle.tiles.specs.Tile.{row_of}
 use Rattle.tiles.proofs.row_of.Goals as goal
 

@@ -1,5 +1,4 @@
 -- `tiles::sprite_colors` meets its contract.
-use borrow.Author.Rules.{rules}
 use Rattle.tiles.specs.Objects.{sprite_colours}
 use Rattle.tiles.specs.Sources.{sprite_tile_row, started_row}
 use Rattle.tiles.proofs.sprite_colors.Goals as goal

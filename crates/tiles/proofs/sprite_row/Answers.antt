@@ -1,8 +1,6 @@
 -- `tiles::sprite_row` meets its contract.
-use borrow.Author.Rules.{rules}
 use Rattle.tiles.specs.Objects.{sprite_row}
 use Rattle.tiles.specs.Sources.{sprite_tile_row}
-use Rattle.tiles.proofs.Rows.{in_bank_law}
 use Rattle.tiles.proofs.sprite_row.Goals as goal
 
 pub returns : goal.returns

@@ -1,7 +1,6 @@
 -- `tiles::tile_address` meets its contract.
 use native.Mathlib.Omega.{arith}
 use borrow.Author.Tests.{lt-ltb, le-ltb}
-use borrow.Author.Rules.{rules}
 use Rattle.tiles.specs.Tile.{tile_address}
 use Rattle.tiles.proofs.tile_address.Goals as goal
 

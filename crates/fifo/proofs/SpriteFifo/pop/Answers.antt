@@ -1,7 +1,6 @@
 -- `fifo::SpriteFifo::pop` meets its contract.
 use mathlib.Core.Path.{sym}
 use native.Mathlib.Omega.{arith}
-use borrow.Author.Rules.{rules}
 use Rattle.fifo.proofs.Sprites.{sprite_popped_none, sprite_popped_some}
 use Rattle.fifo.proofs.SpriteFifo.pop.Goals as goal
 
