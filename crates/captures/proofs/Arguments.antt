@@ -12,10 +12,6 @@ use Rattle.captures.specs.declared.Number.{Number}
 use Rattle.captures.specs.declared.Number.TheVariants.{Is, Bad}
 use Rattle.captures.specs.declared.Wanted.{Wanted}
 use Rattle.captures.specs.declared.Wanted.TheVariants as wanted
-use Rattle.captures.specs.declared.Next.{Next}
-use Rattle.captures.specs.declared.Next.TheVariants as next
-use Rattle.captures.specs.declared.Argument.{Argument}
-use Rattle.captures.specs.declared.Argument.TheVariants as argument
 use Rattle.captures.specs.declared.Reason.{Reason}
 use Rattle.captures.specs.declared.Reason.TheVariants.{Missing, Extra}
 use Rattle.captures.specs.declared.Call.{Call}
@@ -25,7 +21,7 @@ use Rattle.captures.specs.Names.{colour_word, dmg_word, cgb_word, grey_word, on_
 use Rattle.captures.specs.Numbers.{digit_of, number_from}
 use Rattle.captures.specs.Reading.{either, kind_of, hexadecimal, bytes_of, within, decimal, meaning, wrong, is_optional, Then, onward, whole, read_call, said}
 use Rattle.captures.specs.Reading.{argument as argumentOf}
-use Rattle.captures.specs.Parts.{IsWord, Found, limit, Went, Took}
+use Rattle.captures.specs.Parts.{IsWord, limit, Went}
 use Rattle.captures.proofs.Words.{same_equal, part_length}
 use Rattle.captures.proofs.Numbers.{grows, fits}
 
@@ -83,8 +79,12 @@ small wanted.Value w = tested 256 w _ _ λ e.
 small wanted.Bytes w = tested 18446744073709551616 w _ _ λ e.
     let size : length w ≤ 16 = leb-true (length w) 16 (second (eqb (length w % 2) 0 && leb 2 (length w)) (leb (length w) 16) e) in
     number_small 16 0 0 18446744073709551616 w w (omega arith) (fits (0 + length w) (omega arith)) size
-small wanted.Cycles w = tested 256 w _ _ λ e. bounded 256 0 255 w _ (omega arith) (omega (arith, leb-true (length w) 10 (second (leb 1 (length w)) (leb (length w) 10) e)))
-small wanted.Times w = tested 4294967296 w _ _ λ e. bounded 4294967296 1 4294967295 w _ (omega arith) (omega (arith, leb-true (length w) 10 (second (leb 1 (length w)) (leb (length w) 10) e)))
+small wanted.Cycles w = tested 256 w (leb 1 (length w) && leb (length w) 10) _ λ e.
+    let size : length w ≤ 10 = leb-true (length w) 10 (second (leb 1 (length w)) (leb (length w) 10) e) in
+    bounded 256 0 255 w _ (omega arith) (omega arith)
+small wanted.Times w = tested 4294967296 w (leb 1 (length w) && leb (length w) 10) _ λ e.
+    let size : length w ≤ 10 = leb-true (length w) 10 (second (leb 1 (length w)) (leb (length w) 10) e) in
+    bounded 4294967296 1 4294967295 w _ (omega arith) (omega arith)
 small wanted.Kind w =
     known 3 0 w write_word _ (omega arith) (omega arith)
     (known 3 1 w read_word _ (omega arith) (omega arith) (known 3 2 w read_write_word Bad (omega arith) (omega arith) tt))
@@ -100,21 +100,6 @@ one_small wanted.Cycles = omega arith
 one_small wanted.Times = omega arith
 one_small wanted.Kind = omega arith
 one_small wanted.Switch = omega arith
-
--- THE WORDS FROM A PLACE ON
-
-pub found_word : {t : List ℕ} {from : ℕ} {r : Next} {start stop : ℕ} → Found t from r → r ≡ next.Word start stop → IsWord t from start stop
-found_word f e = rw e at f
-
-pub found_end : (t : List ℕ) (from : ℕ) (r : Next) → Found t from r → r ≡ next.End → words (drop from t) ≡ []
-found_end t from r f e = rw e at f
-
-pub took_read : {t : List ℕ} {from : ℕ} {k : Wanted} {r : Argument} {value size rest : ℕ} → Took t from k r → r ≡ argument.Read value size rest → Went t from k value size rest
-took_read f e = rw e at f
-
-pub took_wrong : (t : List ℕ) (from : ℕ) (k : Wanted) (r : Argument) (reason : Reason) → Took t from k r → r ≡ argument.Wrong reason
-    → (then : Then) → argumentOf k (words (drop from t)) then ≡ line.Error reason
-took_wrong t from k r reason f e = rw e at f
 
 -- THE NEXT ARGUMENT
 

@@ -6,8 +6,7 @@ use Prim.Native.Nat.{ℕ, ◌≤◌}
 use native.Mathlib.Omega.{arith}
 use lib.ListN.{length, take, drop}
 use lib.Seq.{length-take-le}
-use Rattle.io.specs.Counts.{IsPrefixLen}
-use Rattle.texts.specs.Appended.{Appended}
+use Rattle.texts.specs.Appended.{Appended, IsPrefixLen}
 use Rattle.texts.proofs.Appends.{then}
 use Rattle.captures.specs.declared.Call.{Call}
 use Rattle.captures.specs.Printing.{spaced, name_of, arguments_of, printed}
@@ -31,9 +30,9 @@ chosen_most false one other n h k = k
 -- a call's name and its arguments, put at the start of a buffer of 40 bytes: its first bytes are the call's text
 pub text_put : {call shape : Call} {a b c : List ℕ} {mid to : ℕ} → length a ≡ 40 → call ≡ shape
     → Appended a b 0 mid (name_of shape) → Appended b c mid to (spaced (arguments_of shape))
-    → IsPrefixLen to c × ((take to c ≡ printed call) × (drop to c ≡ drop to a))
+    → IsPrefixLen to c × (take to c ≡ printed call) × (drop to c ≡ drop to a)
 unfolding printed
 text_put {shape = shape} {c = c} {to = to} size e p q =
     let all = then p q in
     let fits : to ≤ length c = omega (arith, all.behind, all.sized, printed_fits shape) in
-    rw e ((fits, sym (length-take-le to c fits)), (all.written, all.kept))
+    rw e ((fits, sym (length-take-le to c fits)), all.written, all.kept)

@@ -3,8 +3,7 @@
 #![tactic(auto)]
 
 ghost use Rattle.std.specs.Prelude.{◌≡◌, false, cond, ◌∷◌, ◌+◌, ◌≤◌, ◌<◌, min, length, get_or, take, drop};
-ghost use Rattle.io.specs.Counts.{IsPrefixLen};
-ghost use Rattle.texts.specs.Appended.{Appended};
+ghost use Rattle.texts.specs.Appended.{Appended, IsPrefixLen};
 ghost use Rattle.texts.specs.Numbers.{digits, decimal as decimalText};
 ghost use Rattle.captures.specs.Words.{is_blank, words, is_same};
 ghost use Rattle.captures.specs.Numbers.{digit_of, number_from};
@@ -15,6 +14,9 @@ ghost use Rattle.captures.specs.Reading.{is_optional, wrong as wrongOf, whole as
 ghost use Rattle.captures.specs.Reading.{read_call, said, reading};
 ghost use Rattle.captures.specs.Printing.{spaced, kind_word, bytes_words, printed};
 ghost use Rattle.captures.specs.Parts.{TextEnds, Unblank, IsWord, Found, Took};
+
+// What begins a comment.
+const COMMENT: u8 = b'#';
 
 // Bytes for VRAM or OAM: `count` of them (1 to 8), the first the highest of `bytes`, `times` over from `address` on.
 #[derive(Clone, Copy)]
@@ -115,7 +117,7 @@ fn text_end(line: &[u8]) -> usize
 {
     let mut i = 0;
     while i < line.len() {
-        if line[i] == b'#' {
+        if line[i] == COMMENT {
             return i;
         }
         i += 1;

@@ -1,17 +1,16 @@
 -- A name tells its mark, and a file is read back.
 use Prim.Native.Nat.{ℕ, ◌+◌, ◌≤◌}
-use mathlib.Core.Path.{◌≡◌, refl, ap, sym, ◌∙◌}
-use mathlib.Core.Bool.{Bool, true, ◌&&◌}
-use mathlib.Core.List.{List, [], ◌∷◌, ◌++◌}
+use mathlib.Core.Path.{◌≡◌, refl, ap}
+use mathlib.Core.Bool.{true}
+use mathlib.Core.List.{List, ◌++◌}
 use native.Mathlib.Omega.{arith}
 use lib.Dec.{ltb}
 use lib.ListN.{length, length-append}
 use borrow.Author.Tests.{lt-ltb}
 use Rattle.logic.specs.Every.{every}
-use Rattle.hardware.specs.Screen.{picture_bytes}
 use Rattle.texts.specs.Numbers.{digits, decimal}
 use Rattle.texts.proofs.Numbers.{digits_length, decimal_most}
-use Rattle.png.specs.File.{Text, length_limit}
+use Rattle.png.specs.File.{length_limit}
 use Rattle.png.specs.Laws.{text_fits}
 use Rattle.png.proofs.Laws.{picture_read_back, texts_read_back}
 use Rattle.beam.specs.declared.Mark.{Mark}

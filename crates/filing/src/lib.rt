@@ -2,8 +2,7 @@
 #![tactic(auto)]
 
 ghost use Rattle.std.specs.Prelude.{◌≡◌, map, ◌+◌, ◌≤◌, length, take, drop};
-ghost use Rattle.io.specs.Counts.{IsPrefixLen};
-ghost use Rattle.texts.specs.Appended.{Appended};
+ghost use Rattle.texts.specs.Appended.{Appended, IsPrefixLen};
 ghost use Rattle.texts.specs.Numbers.{decimal};
 ghost use Rattle.png.specs.File.{text_chunk};
 ghost use Rattle.filing.specs.Names.{mark_word, mark_end, name_of, behind_slash, shown_name};

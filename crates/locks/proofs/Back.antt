@@ -1,7 +1,5 @@
 -- An open read gives what an open write of that address stored (specs/Laws).
-use Prim.Native.Nat.{◌+◌, ◌*◌, ◌%◌, ◌<◌}
 use native.Mathlib.Omega.{arith}
-use lib.ListN.{length}
 use lib.Seq.{get_or-set_same}
 use Rattle.locks.specs.Laws.{ReadsBack}
 

@@ -1,12 +1,11 @@
 -- Bytes put into a slice from a place on.
 use mathlib.Core.Path.{◌≡◌, refl, ap, sym, ◌∙◌}
-use mathlib.Core.List.{List, [], ◌∷◌, ◌++◌, append_assoc, append-nil}
+use mathlib.Core.List.{List, [], ◌++◌, append_assoc, append-nil}
 use Prim.Native.Nat.{ℕ, ◌+◌, ◌-◌, ◌≤◌}
 use native.Mathlib.Omega.{arith}
 use lib.ListN.{length, take, drop, length-append, length-take, length-drop}
 use lib.Seq.{sets, sets-eq, take_at, drop_at, drop-drop, take-add, length-take-le}
-use Rattle.io.specs.Counts.{IsPrefixLen}
-use Rattle.texts.specs.Appended.{Appended}
+use Rattle.texts.specs.Appended.{Appended, IsPrefixLen}
 use Rattle.texts.specs.Laws.{AppendedBoth}
 
 -- from the parts of what is left

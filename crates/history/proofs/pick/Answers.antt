@@ -1,5 +1,4 @@
 -- `history::pick` says of `ppu::pick` what specs/Public says.
-use borrow.Author.Rules.{rules}
 use Rattle.history.proofs.Public.{pick_performs}
 use Rattle.history.proofs.pick.Goals as goal
 

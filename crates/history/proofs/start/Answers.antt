@@ -1,5 +1,4 @@
 -- `history::start` says of `ppu::start` what specs/Public says.
-use borrow.Author.Rules.{rules}
 use Rattle.history.proofs.Public.{start_performs}
 use Rattle.history.proofs.start.Goals as goal
 

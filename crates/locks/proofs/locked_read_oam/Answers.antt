@@ -1,12 +1,8 @@
 -- `locks::locked_read_oam` meets its contract.
-use mathlib.Core.Path.{refl}
 use native.Mathlib.Omega.{arith}
 use borrow.Author.Tests.{eqb-true, ltb-true}
-use borrow.Author.Rules.{rules}
 use Rattle.refusals.proofs.Ladder.{own_none}
-use Rattle.refusals.proofs.Given.{refused, accepted}
 use Rattle.terms.proofs.Graded.{graded_fine}
-use Rattle.ports.proofs.Answers.{same_read}
 use Rattle.locks.proofs.locked_read_oam.Goals as goal
 
 pub read_oam-byte-requires : goal.read_oam-byte-requires

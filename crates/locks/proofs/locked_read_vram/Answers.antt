@@ -1,10 +1,6 @@
 -- `locks::locked_read_vram` meets its contract.
-use mathlib.Core.Path.{refl}
 use borrow.Author.Tests.{eqb-true}
-use borrow.Author.Rules.{rules}
-use Rattle.refusals.proofs.Given.{refused, accepted}
 use Rattle.terms.proofs.Graded.{graded_fine}
-use Rattle.ports.proofs.Answers.{same_read}
 use Rattle.locks.proofs.locked_read_vram.Goals as goal
 
 pub read_vram_banked-byte-requires : goal.read_vram_banked-byte-requires

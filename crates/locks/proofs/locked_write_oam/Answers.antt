@@ -1,11 +1,8 @@
 -- `locks::locked_write_oam` meets its contract.
-use mathlib.Core.Path.{sym, ◌∙◌}
 use native.Mathlib.Omega.{arith}
 use borrow.Author.Tests.{eqb-true, ltb-true}
-use borrow.Author.Rules.{rules}
 use Rattle.refusals.proofs.Ladder.{own_none}
 use Rattle.terms.proofs.Graded.{graded_fine}
-use Rattle.locks.proofs.Behind.{write_refused, write_dropped, write_done}
 use Rattle.locks.proofs.locked_write_oam.Goals as goal
 
 pub write_oam-requires : goal.write_oam-requires

@@ -1,9 +1,6 @@
 -- `locks::locked_write_vram` meets its contract.
-use mathlib.Core.Path.{sym, ◌∙◌}
 use borrow.Author.Tests.{eqb-true}
-use borrow.Author.Rules.{rules}
 use Rattle.terms.proofs.Graded.{graded_fine}
-use Rattle.locks.proofs.Behind.{write_refused, write_dropped, write_done}
 use Rattle.locks.proofs.locked_write_vram.Goals as goal
 
 pub write_vram-requires : goal.write_vram-requires

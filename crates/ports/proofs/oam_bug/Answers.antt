@@ -1,7 +1,6 @@
 -- `ports::oam_bug` meets its contract.
 use borrow.Author.Tests.{eqb-true}
-use borrow.Author.Rules.{rules}
-use Rattle.ports.proofs.Bug.{corruptible, bug_refused, bug_done}
+use Rattle.ports.proofs.Bug.{corruptible}
 use Rattle.ports.proofs.oam_bug.Goals as goal
 
 pub corrupted_row-row-requires : goal.corrupted_row-row-requires

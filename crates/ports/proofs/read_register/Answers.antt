@@ -1,8 +1,4 @@
 -- `ports::read_register` meets its contract.
-use mathlib.Core.Path.{refl}
-use borrow.Author.Rules.{rules}
-use Rattle.refusals.proofs.Given.{refused, accepted}
-use Rattle.ports.proofs.Answers.{same_read}
 use Rattle.terms.proofs.Graded.{graded_fine}
 use Rattle.ports.proofs.read_register.Goals as goal
 

@@ -2,8 +2,6 @@
 use mathlib.Core.Path.{sym, ◌∙◌}
 use native.Mathlib.Omega.{arith}
 use borrow.Author.Tests.{eqb-true, ltb-true}
-use borrow.Author.Rules.{rules}
-use Rattle.refusals.proofs.Given.{refused, accepted}
 use Rattle.refusals.proofs.Ladder.{lowest_none, own_none}
 use Rattle.ports.proofs.write_oam.Goals as goal
 

@@ -1,8 +1,5 @@
 -- `ports::write_vram` meets its contract.
-use mathlib.Core.Path.{refl}
 use borrow.Author.Tests.{eqb-true}
-use borrow.Author.Rules.{rules}
-use Rattle.refusals.proofs.Given.{refused, accepted}
 use Rattle.terms.proofs.Graded.{graded_fine}
 use Rattle.ports.proofs.write_vram.Goals as goal
 

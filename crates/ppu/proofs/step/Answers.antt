@@ -1,9 +1,6 @@
 -- `ppu::step` meets its contract.
-use mathlib.Core.Path.{◌∙◌}
 use native.Mathlib.Omega.{arith}
-use borrow.Author.Rules.{rules}
 use Rattle.logic.proofs.Both.{split}
-use Rattle.refusals.proofs.Given.{refused, accepted}
 use Rattle.refusals.proofs.Ladder.{own_none}
 use Rattle.hardware.proofs.Tables.{tables_sized}
 use Rattle.lcd.proofs.Pictures.{pictures_sized}

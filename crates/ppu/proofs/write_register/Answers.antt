@@ -1,6 +1,4 @@
 -- `ppu::write_register` meets its contract.
-use borrow.Author.Rules.{rules}
-use Rattle.refusals.proofs.Given.{refused, accepted}
 use Rattle.terms.proofs.Graded.{graded_fine}
 use Rattle.ppu.proofs.write_register.Goals as goal
 

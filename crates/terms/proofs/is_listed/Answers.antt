@@ -1,6 +1,5 @@
 -- `terms::is_listed` meets its contract.
-use mathlib.Core.Path.{sym, ◌∙◌}
-use borrow.Author.Rules.{rules}
+use mathlib.Core.Path.{sym}
 use Rattle.registers.proofs.Table.{listed_kept}
 use Rattle.terms.proofs.is_listed.Goals as goal
 

@@ -1,0 +1,13 @@
+-- `texts::places` meets its contract.
+use Rattle.std.proofs.Common.{arith, sym}
+use Rattle.texts.proofs.Numbers.{places_none, places_one, places_more}
+use Rattle.texts.proofs.+places.Goals as goal
+
+pub returns-then-more-eq0 : goal.returns-then-more-eq0
+returns-then-more-eq0 t c = (sym (places_none _ _ c.if-more-eq0.true), omega arith)
+
+pub returns-then-n-lt10 : goal.returns-then-n-lt10
+returns-then-n-lt10 t c = (sym (places_one _ _ c.if-more-eq0.false c.if-n-lt10.true), omega arith)
+
+pub returns : goal.returns
+returns t c = (rw c.places.ensures.0 (sym (places_more _ _ c.if-more-eq0.false c.if-n-lt10.false)), omega arith)
