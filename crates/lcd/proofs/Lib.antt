@@ -5,3 +5,5 @@ pub mod Chosen
 pub mod Pictures
 -- sums of shifts
 pub mod Shifts
+-- the sums of `mixed`
+pub mod Sums
