@@ -2,6 +2,7 @@
 use crate::page;
 use beam::Mark;
 use captures::{Call, Reason};
+use std::fmt::InlineText;
 use std::io::Write;
 use std::{io, str};
 
@@ -10,9 +11,18 @@ pub fn error(rt: &impl Eprint, text: &str) {
     let _ = rt.eprint(text);
 }
 
+// The system's words for an error, without its number, which stands behind them.
+fn words_of(text: &str) -> &str {
+    match text.split_once(" (os error ") {
+        Some((words, _)) => words,
+        None => text,
+    }
+}
+
 // Says what could not be read, opened, made or written, and why.
 pub fn failed(rt: &impl Eprint, what: &str, why: io::Error) {
-    let _ = eprintln!(rt; "{what}: {why}");
+    let text = InlineText::<256>::of(why);
+    let _ = eprintln!(rt; "{what}: {}", words_of(text.as_str()));
 }
 
 // The text of some bytes; nothing where they are none.
