@@ -1,55 +1,70 @@
 #!/usr/bin/env python3
 """Turns Rattle crates into one Rust file, a module a crate: tests/strip.py [--beside NAME,..] CRATE.. >rattle.rs
 
-Each module sees the others, and the names that stand beside them in the file, as stand-ins for the kit's libraries do.
-Dropped are the `ghost use` lines and the clauses of the contracts; all else stays as it is. Every struct and enum gets
-the derives that a comparison needs, `std::num::wrapping_sub_u8` becomes `u8::wrapping_sub`, a `let .. else` is written
-out as the `match` that it stands for, since Debian 12's rustc (1.63) has no such form, and a crate's `use` lines and a
-program's `main` are made public, so that a name is found in every module that knows it."""
+Each module sees the others, and the names that stand beside them in the file, as stand-ins for what a program is handed do.
+Dropped is what is for the proof alone: the `ghost use` lines, the clauses of the contracts, ghost fields and members, the `impl Model`
+blocks, and the attributes that steer the check; all else stays as it is. Every struct and enum gets the derives that a comparison needs
+beside its own, `std::num::wrapping_sub_u8` becomes `u8::wrapping_sub`, a `let .. else` is written out as the `match` that it stands for,
+since Debian 12's rustc (1.63) has no such form, and a crate's `use` lines and a program's `main` are made public, so that a name is
+found in every module that knows it."""
 import argparse
 import re
 import sys
 from pathlib import Path
 
 GHOST_USE = re.compile(r"^[ \t]*ghost use [^;]*;[^\n]*\n", re.M)
-CLAUSE = re.compile(r"^[ \t]*(?:ghost|requires|ensures)\s*\{", re.M)
-TYPE = re.compile(r"^(?:pub )?(?:struct|enum) (?:.*;$|(?:.|\n)*?\n\})", re.M)
+# A clause, starred or not, named or not, or a ghost field or member; up to the brace that opens what it says.
+CLAUSE = re.compile(r"^[ \t]*(?:pub )?(?:(?:requires|ensures)\*?(?: \w+)?|ghost \w+ ?[:=]) ?\{", re.M)
+MODEL = re.compile(r"^[ \t]*impl(?:<[^\n]*>)? Model for [^{\n]*\{", re.M)
+STEERS = re.compile(r"^[ \t]*#!?\[(?:tactic|cycle)\b[^\n]*\]\n", re.M)
+TYPE = re.compile(r"^((?:[ \t]*#\[[^\n]*\]\n)*)((?:pub )?(?:struct|enum) (?:.*;$|(?:.|\n)*?\n\}))", re.M)
+OWN_DERIVES = re.compile(r"^[ \t]*#\[derive\(([^\n]*)\)\]\n", re.M)
 USE = re.compile(r"^(?=use |fn main\()", re.M)
 MOD = re.compile(r"^mod (\w+);$", re.M)
 STD_NUM = re.compile(r"\bstd::num::(\w+)_([ui](?:8|16|32|64|128|size))\b")
 LET_ELSE = re.compile(r"\blet (\w+::\w+)\(([\w, ]*)\) = ([^;{}]+) else (\{[^{}]*\});")
-DERIVE = "#[derive(Clone, Copy, Debug, PartialEq)]\n"
+# Comments, texts and characters, in which a brace is none.
+NO_CODE = re.compile(r"//[^\n]*|b?\"(?:[^\"\\]|\\.)*\"|b?'(?:[^'\\\n]|\\[^\n][^'\n]*)'", re.S)
+DERIVES_OF_RUST = {"Clone", "Copy", "Debug", "PartialEq", "Eq", "PartialOrd", "Ord", "Hash", "Default"}
 
 
-def without_clauses(text, name):
-    """The text without contracts: each clause goes up to the brace that closes it."""
+def without(opening, text, name):
+    """The text without what begins like that and goes up to the brace that closes it, with the comma or semicolon behind it and the line's end."""
+    code = NO_CODE.sub(lambda found: " " * len(found[0]), text)
     out = []
     at = 0
-    while clause := CLAUSE.search(text, at):
-        out.append(text[at : clause.start()])
-        depth, at = 1, clause.end()
+    while found := opening.search(code, at):
+        out.append(text[at : found.start()])
+        depth, at = 1, found.end()
         while depth:
-            if at == len(text):
-                sys.exit(f"strip.py: crate {name}: a clause is not closed")
-            depth += {"{": 1, "}": -1}.get(text[at], 0)
+            if at == len(code):
+                sys.exit(f"strip.py: crate {name}: a brace is not closed, behind: {found[0].strip()}")
+            depth += {"{": 1, "}": -1}.get(code[at], 0)
             at += 1
-        at = text.find("\n", at) + 1 if text[at : at + 1] == "\n" else at
+        at += re.match(r"[,;]?\n?", code[at:]).end()
     return "".join(out) + text[at:]
 
 
 def derived(item):
-    """A type with its derives; what holds a `&mut` is not copied."""
-    return item[0] if "mut " in item[0] else DERIVE + item[0]
+    """A type with its derives and those of a comparison; what holds a `&mut` is not compared."""
+    own = [word.strip() for words in OWN_DERIVES.findall(item[1]) for word in words.split(",")]
+    more = [] if "mut " in item[2] else ["Debug", "PartialEq"]
+    derives = dict.fromkeys([word for word in own if word in DERIVES_OF_RUST] + more)
+    line = f"#[derive({', '.join(derives)})]\n" if derives else ""
+    return OWN_DERIVES.sub("", item[1]) + line + item[2]
 
 
 def stripped(name, path, others):
     """A file of a crate, with the files of its own `mod` lines in their place."""
-    text = path.read_text(encoding="utf-8")
-    text = without_clauses(GHOST_USE.sub("", text), name)
+    text = STEERS.sub("", GHOST_USE.sub("", path.read_text(encoding="utf-8")))
+    text = without(CLAUSE, without(MODEL, text, name), name)
     text = STD_NUM.sub(r"\2::\1", USE.sub("pub ", TYPE.sub(derived, text)))
     text = LET_ELSE.sub(r"let (\2) = match \3 { \1(\2) => (\2), _ => \4 };", text)
-    if re.search(r"\blet\b[^;{}]*\belse\b", re.sub(r"//.*", "", text)):
+    code = NO_CODE.sub("", text)
+    if re.search(r"\blet\b[^;{}]*\belse\b", code):
         sys.exit(f"strip.py: crate {name}: a `let .. else` of another form than `let A::B(c, d) = e else {{ .. }};`")
+    if left := re.search(r"\b(?:requires|ensures|ghost)\b[^\n]*", code):
+        sys.exit(f"strip.py: crate {name}: this is for the proof, and is of no form that is known here: {left[0]}")
     text = text.replace("crate::", f"crate::{name}::")
     text = MOD.sub(lambda mod: braced(mod[1], stripped(name, path.parent / f"{mod[1]}.rt", others), others), text)
     return text
