@@ -7,9 +7,13 @@ import sys
 from pathlib import Path
 
 
+class Misfit(Exception):
+    """Why an edit cannot be applied."""
+
+
 def edited(edit, folder):
     """The files that an edit changes, with their texts after it; its `file:` lines are relative to the folder."""
-    texts, path, old = {}, None, None
+    texts, former, path, old = {}, {}, None, None
     for line in edit.read_text(encoding="utf-8").splitlines():
         key, _, text = line.partition(": ")
         if key == "file":
@@ -17,17 +21,26 @@ def edited(edit, folder):
         elif key == "old":
             old = text
         elif key in ("new", "new:") and path and old is not None:
-            whole = texts[path] if path in texts else path.read_text(encoding="utf-8")
-            if whole.count(old) != 1:
-                sys.exit(f"edit.py: {edit}: an `old:` text stands {whole.count(old)} times in {path}")
-            texts[path], old = whole.replace(old, text), None
+            if path not in texts:
+                if not path.is_file():
+                    raise Misfit(f"{edit}: there is no file {path}")
+                texts[path] = former[path] = path.read_text(encoding="utf-8")
+            if texts[path].count(old) != 1:
+                raise Misfit(f"{edit}: an `old:` text stands {texts[path].count(old)} times in {path}: {old}")
+            texts[path], old = texts[path].replace(old, text), None
     if not texts:
-        sys.exit(f"edit.py: {edit}: it has no `old:` and `new:` pair")
+        raise Misfit(f"{edit}: it has no `old:` and `new:` pair")
+    if texts == former:
+        raise Misfit(f"{edit}: it changes nothing")
     return texts
 
 
 if __name__ == "__main__":
     if len(sys.argv) != 3:
         sys.exit("usage: tests/edit.py EDIT CRATES")
-    for path, text in edited(Path(sys.argv[1]), Path(sys.argv[2])).items():
+    try:
+        after = edited(Path(sys.argv[1]), Path(sys.argv[2]))
+    except Misfit as why:
+        sys.exit(f"edit.py: {why}")
+    for path, text in after.items():
         path.write_text(text, encoding="utf-8")

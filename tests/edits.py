@@ -5,7 +5,7 @@ import re
 import sys
 from pathlib import Path
 
-from edit import edited
+from edit import Misfit, edited
 
 HEADS = [("crate", "edit"), ("cheat", "edits")]
 text = {path.name: path.read_text(encoding="utf-8") for path in Path("docs").glob("*.md")}
@@ -24,10 +24,12 @@ wrong += [f"the documents name {path}, which is no file" for path in paths if no
 wrong += [f"no document names {path}" for path in weakened if str(path) not in paths]
 if not files or not weakened:
     wrong.append("there are none")
+for folder, edits in [(path.parent.parent, [path]) for path in files.values()] + [(Path("crates"), weakened)]:
+    for edit in edits:
+        try:
+            edited(edit, folder)
+        except Misfit as why:
+            wrong.append(str(why))
 if wrong:
     sys.exit("edits: " + "\nedits: ".join(sorted(wrong)))
-for (crate, _), path in files.items():
-    edited(path, Path("crates", crate))
-for path in weakened:
-    edited(path, Path("crates"))
 print(f"edits: {len(files)} and {len(weakened)}, each a file, named in the documents, and fitting")
