@@ -1,9 +1,9 @@
 #!/usr/bin/env python3
 """What a change moved and what stayed, by name, with counts, as a table: tests/moved.py BEFORE [AFTER]
 Two commits; AFTER is the working tree if it is not given. For the note of a request in docs/changes/.
-Definitions are the declarations of specs/; types and constants those of the code; promises are the contracts of functions; code is their bodies; proofs are a function's
-proof, and the laws of the other files of proofs/; edits are those of must-fail/. Comments, imports, layout and `pub` are no change:
-which functions are public is a list of its own."""
+Definitions are the declarations of specs/; types and constants those of the code; promises are the contracts of functions; code is their bodies; proofs are what
+is written of a function's proof (most have nothing, and are found by search), and the laws of the other files of proofs/; edits are those of
+must-fail/. Comments, imports, layout and `pub` are no change: which functions are public is a list of its own."""
 import io
 import re
 import subprocess
@@ -11,8 +11,12 @@ import sys
 import tarfile
 from pathlib import Path
 
-DECLARED = re.compile(r"(?:(?:abbrev|unfoldable|pub|record|data) )*(\S+)")
+DECLARED = re.compile(r"(?:(?:abbrev|unfoldable|opaque|pub|record|data|ruleset) )*(\S+)")
+IMPORT = re.compile(r"^[ \t]*(?:(?:pub|unfoldable) )*(?:use\b[^\n{]*(?:\{[^}]*\})?[^\n]*|mod \w+)\n", re.M)
 FUNCTION = re.compile(r"\s*(?:pub )?fn (\w+)")
+OWNER = re.compile(r"impl(?:<.*?>)? (?:[\w:]+(?:<.*?>)? for )?(\w+)")
+CLAUSE = re.compile(r"\s*(?:requires|ensures|ghost)\b.*\{")
+PROOF = re.compile(r"proofs/(.+)/(?:Proof|Invariants|Answers)\.antt")
 TYPE = re.compile(r"^ *(?:pub )?(?:struct|enum|const) (\w+)(?:[^;\n]*\{$.*?^ *\}|.*?;$)", re.M | re.S)
 KINDS = ["definitions", "types and constants", "promises", "public functions", "code", "proofs of functions", "laws", "edits"]
 
@@ -37,9 +41,9 @@ def plain(text):
 
 def declarations(text):
     """Name and text of each block of an .antt file; blocks are parted by empty lines."""
-    for block in text.split("\n\n"):
+    for block in IMPORT.sub("", text + "\n").split("\n\n"):
         block = re.sub(r"^ *module _.*? where$", "", block, flags=re.M | re.S)
-        lines = [line for line in block.splitlines() if line.strip() and not re.match(r"\s*(--|use |pub mod )", line)]
+        lines = [line for line in block.splitlines() if line.strip() and not re.match(r"\s*--", line)]
         named = [line for line in lines if not line.startswith("infix")]
         if named and (name := DECLARED.match(named[0].strip())):
             yield name[1], "\n".join(lines)
@@ -49,18 +53,22 @@ def functions(text):
     """Name, contract and body of each function of an .rt file; a method's name has its type before it."""
     owner, name = "", None
     for line in re.sub(r"//.*", "", text).splitlines():
-        if owner_line := re.match(r"impl (\w+)", line):
+        if owner_line := OWNER.match(line):
             owner = owner_line[1] + "::"
         elif line == "}" and name is None:
             owner = ""
         if name is None and (found := FUNCTION.match(line)):
-            name, margin, contract, body = owner + found[1], line[: len(line) - len(line.lstrip())], [], None
+            name, margin, contract, body, deep = owner + found[1], line[: len(line) - len(line.lstrip())], [], None, 0
         if name is None:
             continue
         if body is None:
             contract.append(line)
-            if line.rstrip().endswith("{") and "⌜" not in line:
+            if deep or CLAUSE.match(line):
+                deep += line.count("{") - line.count("}")
+            elif line.rstrip().endswith("{"):
                 body = []
+            elif line.rstrip().endswith(";"):
+                name = None
         else:
             body.append(line)
             if line == margin + "}":
@@ -79,9 +87,10 @@ def things(files):
         elif rest.startswith("specs/"):
             for name, said in declarations(text):
                 out["definitions"][crate, place, name] = plain(said)
-        elif rest.startswith("proofs/") and rest.endswith("/Proof.antt"):
+        elif proof := PROOF.fullmatch(rest):
             said = "\n".join(said for _, said in declarations(text))
-            out["proofs of functions"][crate, "", place[len("proofs/") : -len("/Proof")].replace("/", "::")] = plain(said)
+            key = crate, "", proof[1].replace("/", "::")
+            out["proofs of functions"][key] = " ".join([out["proofs of functions"].get(key, ""), plain(said)]).strip()
         elif rest.startswith("proofs/"):
             for name, said in declarations(text):
                 out["laws"][crate, place, name] = plain(said)
