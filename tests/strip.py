@@ -1,7 +1,8 @@
 #!/usr/bin/env python3
-"""Turns Rattle crates into one Rust file, a module a crate: tests/strip.py [--beside NAME,..] CRATE.. >rattle.rs
+"""Turns Rattle crates into one Rust file, a module a crate: tests/strip.py [--std MODULE] CRATE.. >rattle.rs
 
-Each module sees the others, and the names that stand beside them in the file, as stand-ins for what a program is handed do.
+Each module sees the others. With --std a module of that name, which is no crate, stands for the kit's std, and each sees what its
+`prelude` has.
 Dropped is what is for the proof alone: the `ghost use` lines, the clauses of the contracts, ghost fields and members, the `impl Model`
 blocks, and the attributes that steer the check; all else stays as it is. Every struct and enum gets the derives that a comparison needs
 beside its own, `std::num::wrapping_sub_u8` becomes `u8::wrapping_sub`, a `let .. else` is written out as the `match` that it stands for,
@@ -66,12 +67,15 @@ def stripped(name, path, others):
     if left := re.search(r"\b(?:requires|ensures|ghost)\b[^\n]*", code):
         sys.exit(f"strip.py: crate {name}: this is for the proof, and is of no form that is known here: {left[0]}")
     text = text.replace("crate::", f"crate::{name}::")
+    if given.std:
+        text = re.sub(r"\bstd::", f"crate::{given.std}::", text)
     text = MOD.sub(lambda mod: braced(mod[1], stripped(name, path.parent / f"{mod[1]}.rt", others), others), text)
     return text
 
 
 def braced(name, text, others):
-    return f"pub mod {name} {{\nuse crate::{{{', '.join(others)}}};\n{text}}}\n"
+    prelude = f"use crate::{given.std}::prelude::*;\n" if given.std else ""
+    return f"pub mod {name} {{\nuse crate::{{{', '.join(others)}}};\n{prelude}{text}}}\n"
 
 
 def module(name, others):
@@ -79,10 +83,9 @@ def module(name, others):
     return braced(name, stripped(name, lib if lib.exists() else main, others), others)
 
 
-words = argparse.ArgumentParser(usage="tests/strip.py [--beside NAME,..] CRATE.. >rattle.rs")
-words.add_argument("--beside", type=lambda names: names.split(","), default=[])
+words = argparse.ArgumentParser(usage="tests/strip.py [--std MODULE] CRATE.. >rattle.rs")
+words.add_argument("--std")
 words.add_argument("crates", nargs="+")
 given = words.parse_args()
-print("#![allow(unused)]")
 for name in given.crates:
-    print(module(name, [other for other in given.crates + given.beside if other != name]))
+    print(module(name, [other for other in given.crates if other != name]))
