@@ -3,21 +3,21 @@
 -- what it stored since the latest of start, swap and blanking. What a caller holds in hand is what Public says of the functions.
 --
 --     statement         proved in               by
---     1 Never2          proofs/Demand           never-2
+--     1 Never2          proofs/Demand           never_2
 --     2 Answered        proofs/Answered         answered
 --     3 Counted         proofs/Demand           counted
---     4 EndsInTime      proofs/Demand           ends-in-time
---     5 EmptyAtOrigin   proofs/Demand           empty-at-origin
---     6 EachOnce        proofs/Frame            each-once
+--     4 EndsInTime      proofs/Demand           ends_in_time_law
+--     5 EmptyAtOrigin   proofs/Demand           empty_at_origin_law
+--     6 EachOnce        proofs/Frame            each_once_law
 --     7 Marked          proofs/Demand           marked
 --     8 Torn            proofs/Torn             torn
---     9 PictureGiven    proofs/Answered         picture-given
+--     9 PictureGiven    proofs/Answered         picture_given_law
 --     10 Independent    proofs/Alike            independent
---     11 EveryNumber    proofs/Exists           every-number
+--     11 EveryNumber    proofs/Exists           every_number_law
 --     12 Reached        proofs/Exists           reached
---     13 Begun          proofs/Exists           begun-frame
---     14 MarkedUnseen   proofs/Unseen           marked-unseen
---     15 FirstPicture   proofs/Unseen           first-picture
+--     13 Begun          proofs/Exists           begun_frame
+--     14 MarkedUnseen   proofs/Unseen           marked_unseen_law
+--     15 FirstPicture   proofs/Unseen           first_picture_law
 --     16 Unshown        proofs/Exists           unshown
 use Rattle.std.specs.Prelude.{ℕ, ◌≤◌, ◌<◌, ◌≡◌, ◌↔◌, Bool, true, not, cond, ◌&&◌, eqb, length, replicate}
 use mathlib.Core.List.{List, [], ◌∷◌, ◌++◌, Memᴰ}
