@@ -24,11 +24,12 @@ mod states;
 #[path = "harness/step.rs"]
 mod step;
 
-use bench::{fill, Bench, Memory};
+use bench::{fill, number, Bench, Memory};
 use given::list::Random;
 use given::machine::Requests;
 use given::ppu::Ppu;
-use rattle::line_sets::{self, Lowest};
+use rattle::line_sets;
+use rattle::refusals::Refusal;
 use rattle::sprite::{self, Sprite};
 use rattle::state::State;
 use rattle::{ports, ppu};
@@ -118,9 +119,10 @@ fn given_steps(ppu: &mut Ppu, mut steps: u32) -> u32 {
 fn unit_steps(s: &mut State, m: &mut Memory, mut steps: u32) -> u32 {
     let mut sum = 0;
     for _ in 0..*hidden(&mut steps) {
-        let t = ppu::step(*hidden(s), &m.vram, &m.oam, &mut m.a, &mut m.b, 4);
-        *s = t.state;
-        sum += t.report.requests as u32 + 1000 * t.number as u32;
+        sum += match ppu::step(hidden(s), &m.vram, &m.oam, &mut m.a, &mut m.b, 4) {
+            Ok(report) => report.requests as u32,
+            Err(why) => 1000 * why.number() as u32,
+        };
     }
     *hidden(&mut sum)
 }
@@ -377,8 +379,8 @@ impl Asking {
                 edits.push((0xFE00 + at, y));
             }
         }
-        let number = line_sets::build(&kept.oam, &mut kept.sets, self.tall);
-        assert_eq!(number, 0, "{}: the build is refused", self.name());
+        let build = line_sets::build(&kept.oam, &mut kept.sets, self.tall);
+        assert_eq!(build, Ok(()), "{}: the build is refused", self.name());
         (kept, edits)
     }
 
@@ -395,18 +397,16 @@ impl Asking {
     fn compare(&self, kept: &Kept, edits: &[Edit]) {
         let (mut scan, mut m) = (kept.clone(), kept.clone());
         for (k, &(address, value)) in edits.iter().enumerate() {
-            let wanted = ports::write_oam(&mut scan.oam, address, value);
-            let got = line_sets::write_oam(&mut m.oam, &mut m.sets, self.tall, address, value);
-            line_sets::build(&scan.oam, &mut scan.sets, self.tall);
+            let wanted = number(&ports::write_oam(&mut scan.oam, address, value));
+            let got = number(&line_sets::write_oam(&mut m.oam, &mut m.sets, self.tall, address, value));
+            let build = line_sets::build(&scan.oam, &mut scan.sets, self.tall);
+            assert_eq!(build, Ok(()), "{}: a build is refused", self.name());
             let same = wanted == got && scan.oam == m.oam && scan.sets == m.sets;
             let line = (0..144).find(|&line| {
-                let (count, first) = (
-                    line_sets::count(&m.sets, line),
-                    line_sets::first(&m.sets, line),
-                );
+                let (count, first) = count_by_scan(&scan.oam, line, self.tall);
                 sprite::pick(&scan.oam, line, self.tall) != line_sets::pick(&m.oam, &m.sets, line)
-                    || count_by_scan(&scan.oam, line, self.tall) != (count.count, first.first)
-                    || count.number + first.number != 0
+                    || line_sets::count(&m.sets, line) != Ok(count)
+                    || line_sets::first(&m.sets, line) != Ok(first)
             });
             let place = match line {
                 Some(line) => format!("line {}", line),
@@ -427,10 +427,10 @@ impl Asking {
 /// How many entries touch a line, and the first of them: no entry waits for the one before, so that the compiler can take many
 /// at once. With `first` set where the count is still 0 it would take them one by one, and several times as long.
 #[inline(always)]
-fn count_by_scan(oam: &[u8], line: u8, tall: u8) -> (u8, Lowest) {
+fn count_by_scan(oam: &[u8], line: u8, tall: u8) -> (u8, Option<u8>) {
     let (mut count, mut first) = (0, 40);
     if oam.len() != 160 {
-        return (count, Lowest::Nothing);
+        return (count, None);
     }
     for i in 0..40u8 {
         let touches = Sprite::at(oam, i as usize).in_range(line, tall);
@@ -440,17 +440,22 @@ fn count_by_scan(oam: &[u8], line: u8, tall: u8) -> (u8, Lowest) {
     (
         count,
         if first < 40 {
-            Lowest::Entry(first)
+            Some(first)
         } else {
-            Lowest::Nothing
+            None
         },
     )
 }
 
-fn index(first: Lowest) -> u64 {
-    match first {
-        Lowest::Nothing => 40,
-        Lowest::Entry(i) => i as u64,
+fn index(first: Option<u8>) -> u64 {
+    first.unwrap_or(40) as u64
+}
+
+/// An answer in the sum, or the number of its refusal.
+fn summed<T: Copy>(answer: &Result<T, Refusal>, value: impl Fn(T) -> u64) -> u64 {
+    match *answer {
+        Ok(answer) => value(answer),
+        Err(why) => 1_000_000 * why.number() as u64,
     }
 }
 
@@ -460,11 +465,10 @@ fn index(first: Lowest) -> u64 {
 fn lists_by_scan(m: &mut Kept, tall: u8, edits: &[Edit]) -> u64 {
     let mut sum = 0;
     for &(address, value) in edits {
-        sum += 1_000_000 * ports::write_oam(&mut hidden(m).oam, address, value) as u64;
+        sum += 1_000_000 * number(&ports::write_oam(&mut hidden(m).oam, address, value)) as u64;
         for line in 0..144 {
             let mut t = sprite::pick(&hidden(m).oam, line, tall);
-            let t = hidden(&mut t);
-            sum += t.selection.count as u64 + 1_000_000 * t.number as u64;
+            sum += summed(hidden(&mut t), |selection| selection.count as u64);
         }
     }
     *hidden(&mut sum)
@@ -475,12 +479,11 @@ fn lists_by_sets(m: &mut Kept, tall: u8, edits: &[Edit]) -> u64 {
     let mut sum = 0;
     for &(address, value) in edits {
         let Kept { oam, sets } = hidden(m);
-        sum += 1_000_000 * line_sets::write_oam(oam, sets, tall, address, value) as u64;
+        sum += 1_000_000 * number(&line_sets::write_oam(oam, sets, tall, address, value)) as u64;
         for line in 0..144 {
             let Kept { oam, sets } = hidden(m);
             let mut t = line_sets::pick(oam, sets, line);
-            let t = hidden(&mut t);
-            sum += t.selection.count as u64 + 1_000_000 * t.number as u64;
+            sum += summed(hidden(&mut t), |selection| selection.count as u64);
         }
     }
     *hidden(&mut sum)
@@ -490,7 +493,7 @@ fn lists_by_sets(m: &mut Kept, tall: u8, edits: &[Edit]) -> u64 {
 fn counts_by_scan(m: &mut Kept, tall: u8, edits: &[Edit]) -> u64 {
     let mut sum = 0;
     for &(address, value) in edits {
-        sum += 1_000_000 * ports::write_oam(&mut hidden(m).oam, address, value) as u64;
+        sum += 1_000_000 * number(&ports::write_oam(&mut hidden(m).oam, address, value)) as u64;
         for line in 0..144 {
             let mut t = count_by_scan(&hidden(m).oam, line, tall);
             let (count, first) = *hidden(&mut t);
@@ -505,14 +508,12 @@ fn counts_by_sets(m: &mut Kept, tall: u8, edits: &[Edit]) -> u64 {
     let mut sum = 0;
     for &(address, value) in edits {
         let Kept { oam, sets } = hidden(m);
-        sum += 1_000_000 * line_sets::write_oam(oam, sets, tall, address, value) as u64;
+        sum += 1_000_000 * number(&line_sets::write_oam(oam, sets, tall, address, value)) as u64;
         for line in 0..144 {
             let mut t = line_sets::count(&hidden(m).sets, line);
-            let t = hidden(&mut t);
-            sum += t.count as u64 + 1_000_000 * t.number as u64;
+            sum += summed(hidden(&mut t), |count| count as u64);
             let mut t = line_sets::first(&hidden(m).sets, line);
-            let t = hidden(&mut t);
-            sum += index(t.first) + 1_000_000 * t.number as u64;
+            sum += summed(hidden(&mut t), index);
         }
     }
     *hidden(&mut sum)

@@ -5,7 +5,7 @@ Each module sees the others. With --std a module of that name, which is no crate
 `prelude` has.
 Dropped is what is for the proof alone: the `ghost use` lines, the clauses of the contracts, ghost fields and members, the `impl Model`
 blocks, and the attributes that steer the check; all else stays as it is. Every struct and enum gets the derives that a comparison needs
-beside its own, `std::num::wrapping_sub_u8` becomes `u8::wrapping_sub`, a `let .. else` is written out as the `match` that it stands for,
+beside its own, `std::num::wrapping_sub_u8` becomes `u8::wrapping_sub`, `fmt` of a `Display` goes to a `Formatter`, a `let .. else` is written out as the `match` that it stands for,
 since Debian 12's rustc (1.63) has no such form, and a crate's `use` lines and a program's `main` are made public, so that a name is
 found in every module that knows it."""
 import argparse
@@ -13,7 +13,7 @@ import re
 import sys
 from pathlib import Path
 
-GHOST_USE = re.compile(r"^[ \t]*ghost use [^;]*;[^\n]*\n", re.M)
+GHOST_USE = re.compile(r"^[ \t]*(?:ghost use [^;]*|use std::marker::Model);[^\n]*\n", re.M)
 # A clause, starred or not, named or not, or a ghost field or member; up to the brace that opens what it says.
 CLAUSE = re.compile(r"^[ \t]*(?:pub )?(?:(?:requires|ensures)\*?(?: \w+)?|ghost \w+ ?[:=]) ?\{", re.M)
 MODEL = re.compile(r"^[ \t]*impl(?:<[^\n]*>)? Model for [^{\n]*\{", re.M)
@@ -23,7 +23,9 @@ OWN_DERIVES = re.compile(r"^[ \t]*#\[derive\(([^\n]*)\)\]\n", re.M)
 USE = re.compile(r"^(?=use |fn main\()", re.M)
 MOD = re.compile(r"^mod (\w+);$", re.M)
 STD_NUM = re.compile(r"\bstd::num::(\w+)_([ui](?:8|16|32|64|128|size))\b")
-LET_ELSE = re.compile(r"\blet (\w+::\w+)\(([\w, ]*)\) = ([^;{}]+) else (\{[^{}]*\});")
+LET_ELSE = re.compile(r"\blet ((?:\w+::)?\w+)\(([\w, ]*)\) = ([^;{}]+) else (\{[^{}]*\});")
+# A value's text goes to any writer here, to a `Formatter` there.
+FMT = re.compile(r"\bfn fmt<W: fmt::Write>\(&self, f: &mut fmt::Formatter<W>\)")
 # Comments, texts and characters, in which a brace is none.
 NO_CODE = re.compile(r"//[^\n]*|b?\"(?:[^\"\\]|\\.)*\"|b?'(?:[^'\\\n]|\\[^\n][^'\n]*)'", re.S)
 DERIVES_OF_RUST = {"Clone", "Copy", "Debug", "PartialEq", "Eq", "PartialOrd", "Ord", "Hash", "Default"}
@@ -47,9 +49,9 @@ def without(opening, text, name):
 
 
 def derived(item):
-    """A type with its derives and those of a comparison; what holds a `&mut` is not compared."""
+    """A type with its derives and those of a comparison; what holds a `&mut` or an error of std is not compared."""
     own = [word.strip() for words in OWN_DERIVES.findall(item[1]) for word in words.split(",")]
-    more = [] if "mut " in item[2] else ["Debug", "PartialEq"]
+    more = [] if "mut " in item[2] or "io::Error" in item[2] else ["Debug", "PartialEq"]
     derives = dict.fromkeys([word for word in own if word in DERIVES_OF_RUST] + more)
     line = f"#[derive({', '.join(derives)})]\n" if derives else ""
     return OWN_DERIVES.sub("", item[1]) + line + item[2]
@@ -60,10 +62,11 @@ def stripped(name, path, others):
     text = STEERS.sub("", GHOST_USE.sub("", path.read_text(encoding="utf-8")))
     text = without(CLAUSE, without(MODEL, text, name), name)
     text = STD_NUM.sub(r"\2::\1", USE.sub("pub ", TYPE.sub(derived, text)))
+    text = FMT.sub("fn fmt(&self, f: &mut fmt::Formatter<'_>)", text)
     text = LET_ELSE.sub(r"let (\2) = match \3 { \1(\2) => (\2), _ => \4 };", text)
     code = NO_CODE.sub("", text)
     if re.search(r"\blet\b[^;{}]*\belse\b", code):
-        sys.exit(f"strip.py: crate {name}: a `let .. else` of another form than `let A::B(c, d) = e else {{ .. }};`")
+        sys.exit(f"strip.py: crate {name}: a `let .. else` of another form than `let A::B(c, d) = e else {{ .. }};` or `let B(c) = e else {{ .. }};`")
     if left := re.search(r"\b(?:requires|ensures|ghost)\b[^\n]*", code):
         sys.exit(f"strip.py: crate {name}: this is for the proof, and is of no form that is known here: {left[0]}")
     text = text.replace("crate::", f"crate::{name}::")

@@ -6,6 +6,7 @@ use crate::states;
 use given::list::Random;
 use given::machine::Machine;
 use given::ppu::Ppu;
+use rattle::refusals::Refusal;
 use rattle::state::State;
 use std::cell::RefCell;
 use std::fmt::Debug;
@@ -29,6 +30,14 @@ pub fn silence_stops() {
 pub fn caught<T>(call: impl FnOnce() -> T) -> Result<T, String> {
     catch_unwind(AssertUnwindSafe(call))
         .map_err(|_| STOP.with(|stop| format!("it stopped: {}", stop.borrow())))
+}
+
+/// The number of a call in the table of refusals, 0 where it is done.
+pub fn number<T>(answer: &Result<T, Refusal>) -> u8 {
+    match answer {
+        Ok(_) => 0,
+        Err(why) => why.number(),
+    }
 }
 
 /// The given machine with the count of stored places and the blanking, and beside it colour mode as the last start wanted it, which the

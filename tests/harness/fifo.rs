@@ -4,7 +4,7 @@ use crate::bench::Bench;
 use crate::states::{self, COLOUR};
 use given::ppu::more::SelectedSprite;
 use given::ppu::parts::ColorPalette;
-use rattle::fifo::{SpriteFifoPixel, SpritePop};
+use rattle::fifo::SpriteFifoPixel;
 use rattle::sprite::Sprite;
 
 fn colors(bench: &mut Bench) -> [u8; 8] {
@@ -63,10 +63,7 @@ pub fn sprites(bench: &mut Bench) -> Result<(), String> {
                     |s, _| {
                         let popped = s.pipe.obj.pop();
                         s.pipe.obj = popped.fifo;
-                        match popped.answer {
-                            SpritePop::Pixel(pixel) => Some(pixel),
-                            SpritePop::Nothing => None,
-                        }
+                        popped.answer
                     },
                 )
                 .map_err(|found| format!("  pop\n{}", found))?

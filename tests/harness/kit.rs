@@ -15,7 +15,26 @@ macro_rules! eprint {
 }
 
 macro_rules! eprintln {
-    ($rt:expr; $($text:tt)*) => { $rt.eprintln(&format!($($text)*)) };
+    ($rt:expr; $($text:tt)*) => { $rt.eprintln(format!($($text)*)) };
+}
+
+pub mod fmt {
+    pub use std::fmt::*;
+
+    /// A text of at most N bytes; none here is longer.
+    pub struct InlineText<const N: usize>(String);
+
+    impl<const N: usize> InlineText<N> {
+        pub fn of(value: impl Display) -> InlineText<N> {
+            let text = value.to_string();
+            assert!(text.len() <= N);
+            InlineText(text)
+        }
+
+        pub fn as_str(&self) -> &str {
+            &self.0
+        }
+    }
 }
 
 pub mod io {
@@ -29,9 +48,8 @@ pub mod io {
     pub trait Eprint {
         fn eprint(&self, text: &str) -> Result<()>;
 
-        fn eprintln(&self, text: &str) -> Result<()> {
-            self.eprint(text)?;
-            self.eprint("\n")
+        fn eprintln(&self, text: impl std::fmt::Display) -> Result<()> {
+            self.eprint(&format!("{text}\n"))
         }
     }
 

@@ -1,13 +1,14 @@
 //! The sets of the lines: beside the given text's selections after every edit; on sets that are not OAM's; and their refusals.
 
-use crate::bench::{caught, fill, first_byte, same, Bench};
+use crate::bench::{self, caught, fill, first_byte, same, Bench};
 use crate::bytes::{set_bytes, shrink};
 use crate::refusals::Tally;
 use given::list::{spaced, Random};
 use given::machine::corrupt;
 use given::ppu::Ppu;
-use rattle::line_sets::{self, Counted, Found, Lowest};
-use rattle::sprite::{self, Picked, SelectedSprite, Selection, Sprite};
+use rattle::line_sets;
+use rattle::refusals::Refusal;
+use rattle::sprite::{self, SelectedSprite, Selection, Sprite};
 use rattle::{oam_bug, ports};
 
 const LINES: usize = 144;
@@ -27,6 +28,9 @@ struct Lent {
 }
 
 /// The answers to the three questions about a line.
+type Counted = Result<u8, Refusal>;
+type Found = Result<Option<u8>, Refusal>;
+type Picked = Result<Selection, Refusal>;
 type Answers = (Counted, Found, Picked);
 
 /// Whether a sprite at y has a row on a line of the picture: it begins on line 0 where y is 16.
@@ -52,14 +56,19 @@ fn sets_of(oam: &[u8], tall: u8) -> Vec<u64> {
     (0..LINES).map(set).collect()
 }
 
+/// An answer by its number in the table of refusals.
+fn answered<T>(number: u8, answer: T) -> Result<T, Refusal> {
+    match number {
+        0 => Ok(answer),
+        1 => Err(Refusal::Length),
+        _ => Err(Refusal::Argument),
+    }
+}
+
 /// How many entries there are, and which is the first.
 fn counted(number: u8, entries: &[u8]) -> (Counted, Found) {
-    let count = entries.len() as u8;
-    let first = match entries.first() {
-        Some(&i) => Lowest::Entry(i),
-        None => Lowest::Nothing,
-    };
-    (Counted { number, count }, Found { number, first })
+    let count = answered(number, entries.len() as u8);
+    (count, answered(number, entries.first().copied()))
 }
 
 /// The ten lowest of the entries, copied from OAM.
@@ -73,7 +82,7 @@ fn picked(number: u8, oam: &[u8], entries: &[u8]) -> Picked {
     }
     let count = entries.len().min(10) as u8;
     let selection = Selection { count, slots };
-    Picked { number, selection }
+    answered(number, selection)
 }
 
 fn ask(m: &Lent, line: u8) -> Answers {
@@ -187,12 +196,16 @@ fn numbers(deed: Deed, m: &mut Lent, tall: u8) -> [u8; 2] {
     match deed {
         Deed::Build => {}
         Deed::Write(address, value) => {
-            return [0, line_sets::write_oam(oam, sets, tall, address, value)];
+            return [0, bench::number(&line_sets::write_oam(oam, sets, tall, address, value))];
         }
-        Deed::WriteBehind(address, value) => behind = ports::write_oam(oam, address, value),
-        Deed::Corrupt(kind, row) => oam_bug::corrupt(oam, row, kind),
+        Deed::WriteBehind(address, value) => {
+            behind = bench::number(&ports::write_oam(oam, address, value))
+        }
+        Deed::Corrupt(kind, row) => {
+            oam_bug::corrupt(oam, row, kind.try_into().unwrap())
+        }
     }
-    [behind, line_sets::build(oam, sets, tall)]
+    [behind, bench::number(&line_sets::build(oam, sets, tall))]
 }
 
 /// The first set that is not as wanted.
@@ -216,15 +229,12 @@ fn hold(ppu: &mut Ppu, deed: Deed, tall: u8, m: &mut Lent) -> Result<(), String>
     }
     same_sets("sets", &sets_of(&oam, tall), &m.sets)?;
     let mut fresh = vec![u64::MAX; LINES];
-    let build = || line_sets::build(&oam, &mut fresh, tall);
+    let build = || bench::number(&line_sets::build(&oam, &mut fresh, tall));
     same(0, build, || "build".to_string())?;
     same_sets("sets built afresh", &m.sets, &fresh)?;
     for line in 0..LINES as u8 {
         let (count, first) = counted(0, &touching(&oam, line as usize, tall));
-        let pick = Picked {
-            number: 0,
-            selection: ppu.part_pick(line, tall),
-        };
+        let pick = Ok(ppu.part_pick(line, tall));
         same(
             ((count, first, pick), pick),
             || (ask(m, line), sprite::pick(&m.oam, line, tall)),
@@ -303,9 +313,9 @@ enum Answer {
 fn make(call: Call, m: &mut Lent) -> Answer {
     let Lent { oam, sets } = m;
     match call {
-        Build(tall) => Answer::Number(line_sets::build(oam, sets, tall)),
+        Build(tall) => Answer::Number(bench::number(&line_sets::build(oam, sets, tall))),
         Write(tall, address, value) => {
-            Answer::Number(line_sets::write_oam(oam, sets, tall, address, value))
+            Answer::Number(bench::number(&line_sets::write_oam(oam, sets, tall, address, value)))
         }
         Ask(line) => Answer::Asked(ask(m, line)),
     }
@@ -396,7 +406,7 @@ fn differs(call: Call, m: &mut Lent) -> (Vec<String>, u8) {
     let wanted = plain(call, &mut after);
     let number = match &wanted {
         Answer::Number(number) => *number,
-        Answer::Asked((.., pick)) => pick.number,
+        Answer::Asked((.., pick)) => bench::number(pick),
     };
     let got = caught(|| make(call, m));
     if got.as_ref() == Ok(&wanted) && *m == after {

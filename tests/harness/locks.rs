@@ -5,6 +5,7 @@ use crate::runs::answer;
 use crate::states;
 use given::list::spaced;
 use rattle::ppu;
+use rattle::refusals::Refusal;
 use rattle::state::State;
 use std::cell::Cell;
 
@@ -123,13 +124,13 @@ impl Walk<'_> {
     /// Reads both memories on both sides where the walk stands.
     fn look(&mut self) -> Result<(), String> {
         let (s, m, given) = (self.state, &self.bench.memory, &self.bench.given.ppu);
-        let told = |read: ppu::ReadAnswer| match (read.number, read.value) {
-            (0, BYTE) => Ok(false),
-            (0, 0xFF) => Ok(true),
-            (number, byte) => Err(format!("  a locked read gives {} {:02X}", number, byte)),
+        let told = |read: Result<u8, Refusal>| match read {
+            Ok(BYTE) => Ok(false),
+            Ok(0xFF) => Ok(true),
+            other => Err(format!("  a locked read gives {:02X?}", other)),
         };
-        let oam = told(ppu::locked_read_oam(s, &m.oam, 0xFE00))?;
-        let vram = told(ppu::locked_read_vram(s, &m.vram, 0x8000))?;
+        let oam = told(ppu::locked_read_oam(&s, &m.oam, 0xFE00))?;
+        let vram = told(ppu::locked_read_vram(&s, &m.vram, 0x8000))?;
         let given_oam = given.read_oam(0xFE00) == 0xFF;
         let given_vram = given.read_vram(0x8000) == 0xFF;
         let (lit, mode, class) = (self.lit(), self.mode(), self.class());

@@ -19,7 +19,7 @@ fn got(oam: &[u8], kind: u8, mode: u8, cycle: u16) -> Result<[u8; 160], String> 
     caught(|| {
         let mut oam: [u8; 160] = oam.try_into().unwrap();
         let row = oam_bug::corrupted_row(mode, cycle);
-        oam_bug::corrupt(&mut oam, row, kind);
+        oam_bug::corrupt(&mut oam, row, kind.try_into().unwrap());
         oam
     })
 }

@@ -3,7 +3,7 @@
 use crate::bench::{caught, same, Bench};
 use crate::states;
 use given::list::Random;
-use rattle::state::{State, Waiting};
+use rattle::state::State;
 
 /// A state is in order if: cycle even and below 456; line and LY below 154; LCD x below 160; bank, sprite palette
 /// selectors and shown picture 0 or 1; fetch delay at most 8; queue lengths at most 16 and 8; at most 10 selected;
@@ -18,8 +18,8 @@ pub fn in_order(s: &State) -> bool {
     let mut obj = (0..p.obj.len as usize).map(|k| p.obj.pixels[(p.obj.head as usize + k) % 8]);
     let mut selected = s.selection.slots.iter().take(s.selection.count as usize);
     let fetched = match p.fetcher.waiting {
-        Waiting::Row(_) => &p.fetcher.row[..],
-        Waiting::Nothing => &[],
+        Some(_) => &p.fetcher.row[..],
+        None => &[],
     };
     b.cycle & 1 == 0
         && b.cycle < 456

@@ -1,16 +1,14 @@
 //! The table of refusals, said again in plain Rust, on every public call: wrong lengths, states out of order, steps,
-//! addresses, moments. A refused call gives its number, the state as given, 0 or no for all else, and writes nothing.
+//! addresses, moments. A refused call gives its number, leaves the state as given, and writes nothing.
 
-use crate::bench::{caught, same, Bench, Memory, PICTURE};
+use crate::bench::{self, caught, same, Bench, Memory, PICTURE};
 use crate::order::in_order;
 use crate::states;
 use given::ppu::Ppu;
-use rattle::beam::Mark;
 use rattle::hardware::Machine;
 use rattle::ppu;
-use rattle::refusals::{first, lowest, own};
-use rattle::state::{State, Waiting};
-use rattle::step::Report;
+use rattle::refusals::{need, Refusal};
+use rattle::state::State;
 
 /// A public call with its arguments; `screen_buffer` has no number.
 #[derive(Clone, Copy, Debug, PartialEq)]
@@ -114,77 +112,45 @@ fn number(call: Call, s: &State, ordered: bool, m: &Memory) -> u8 {
     0
 }
 
-const NO_REPORT: Report = Report {
-    requests: 0,
-    mode: 0,
-    coincidence: false,
-    ly: 0,
-    swapped: false,
-    mark: Mark::No,
-    count: 0,
-};
-
-/// Makes the call: its number, and what else it answers that a refusal fixes, as text.
+/// Makes the call: its number, and what else it answers or leaves that a refusal fixes, as text.
 fn make(call: Call, s: State, m: &mut Memory) -> (u8, String) {
-    match call {
+    let mut after = s;
+    let (number, told_more) = match call {
         Start(dmg, cgb) => {
             let machine = Machine { dmg, cgb };
             let t = ppu::start(machine, &mut m.vram, &mut m.oam, &mut m.a, &mut m.b);
+            let (number, state) = match t {
+                Ok(state) => (0, state),
+                Err(refused) => (refused.why.number(), refused.state),
+            };
             let fresh = Ppu::look_fresh(cgb, dmg).part_state(0, false, cgb);
             (
-                t.number,
-                told(states::plain(&t.state) == fresh, "the fresh state"),
+                number,
+                told(states::plain(&state) == fresh, "the fresh state"),
             )
         }
-        Step(cycles) => {
-            let t = ppu::step(s, &m.vram, &m.oam, &mut m.a, &mut m.b, cycles);
-            let kept = t.number == 0 || (t.state == s && t.report == NO_REPORT);
-            (
-                t.number,
-                told(kept, "the state as given and an empty report"),
-            )
-        }
-        WriteRegister(address, value) => {
-            let t = ppu::write_register(s, &mut m.a, &mut m.b, address, value);
-            (
-                t.number,
-                told(t.number == 0 || t.state == s, "the state as given"),
-            )
-        }
-        ReadRegister(address) => read(s, ppu::read_register(s, address)),
-        WriteVram(address, value) => {
-            let t = ppu::write_vram(s, &mut m.vram, address, value);
-            (t.number, told(t.state == s, "the state as given"))
-        }
-        WriteOam(address, value) => (ppu::write_oam(&mut m.oam, address, value), String::new()),
-        SetColour(flag) => {
-            let t = ppu::set_colour(s, flag);
-            (
-                t.number,
-                told(t.number == 0 || t.state == s, "the state as given"),
-            )
-        }
-        OamBug(kind) => {
-            let t = ppu::oam_bug(s, &mut m.oam, kind);
-            (t.number, told(t.state == s, "the state as given"))
-        }
-        Pick(line, tall) => {
-            let t = ppu::pick(&m.oam, line, tall);
-            let empty = t.selection.count == 0 && t.selection.slots == rattle::sprite::blank();
-            (t.number, told(t.number == 0 || empty, "an empty pick"))
-        }
+        Step(cycles) => done(ppu::step(
+            &mut after, &m.vram, &m.oam, &mut m.a, &mut m.b, cycles,
+        )),
+        WriteRegister(address, value) => done(ppu::write_register(
+            &mut after, &mut m.a, &mut m.b, address, value,
+        )),
+        ReadRegister(address) => done(ppu::read_register(&s, address)),
+        WriteVram(address, value) => done(ppu::write_vram(&s, &mut m.vram, address, value)),
+        WriteOam(address, value) => done(ppu::write_oam(&mut m.oam, address, value)),
+        SetColour(flag) => done(ppu::set_colour(&mut after, flag)),
+        OamBug(kind) => done(ppu::oam_bug(&s, &mut m.oam, kind)),
+        Pick(line, tall) => done(ppu::pick(&m.oam, line, tall)),
         LockedWriteVram(address, value) => {
-            let t = ppu::locked_write_vram(s, &mut m.vram, address, value);
-            (t.number, told(t.state == s, "the state as given"))
+            done(ppu::locked_write_vram(&s, &mut m.vram, address, value))
         }
         LockedWriteOam(address, value) => {
-            let t = ppu::locked_write_oam(s, &mut m.oam, address, value);
-            (t.number, told(t.state == s, "the state as given"))
+            done(ppu::locked_write_oam(&s, &mut m.oam, address, value))
         }
-        LockedReadVram(address) => read(s, ppu::locked_read_vram(s, &m.vram, address)),
-        LockedReadOam(address) => read(s, ppu::locked_read_oam(s, &m.oam, address)),
+        LockedReadVram(address) => done(ppu::locked_read_vram(&s, &m.vram, address)),
+        LockedReadOam(address) => done(ppu::locked_read_oam(&s, &m.oam, address)),
         Screen => {
-            let part = ppu::screen_buffer(s, &m.a, &m.b);
+            let part = ppu::screen_buffer(&s, &m.a, &m.b);
             let wanted = if s.beam.shown == 0 { &m.a } else { &m.b };
             // whole and unmoved where it is given; the number is that of an empty part
             let whole = std::ptr::eq(part, &wanted[..]) && !part.is_empty();
@@ -197,16 +163,15 @@ fn make(call: Call, s: State, m: &mut Memory) -> (u8, String) {
                 ),
             )
         }
-    }
+    };
+    let moves = matches!(call, Step(_) | WriteRegister(..) | SetColour(_));
+    let kept = after == s || (moves && number == 0);
+    (number, told_more + &told(kept, "the state as given"))
 }
 
-/// What a read answers.
-fn read(s: State, t: ppu::ReadAnswer) -> (u8, String) {
-    let kept = t.state == s && (t.number == 0 || t.value == 0);
-    (
-        t.number,
-        told(kept, "the state as given, and a value of 0 where refused"),
-    )
+/// The number of a call that says no more where it is refused.
+fn done<T>(answer: Result<T, Refusal>) -> (u8, String) {
+    (bench::number(&answer), String::new())
 }
 
 fn told(holds: bool, what: &str) -> String {
@@ -312,6 +277,24 @@ fn broken(s: &State, clause: usize) -> State {
     out
 }
 
+/// The number that a ladder of tests gives, 0 where each passed.
+fn code(ladder: Result<(), u8>) -> u8 {
+    ladder.err().unwrap_or(0)
+}
+
+/// The lowest number of a call: by a length, by the order of the state, its own.
+fn lowest(sized: bool, ordered: bool, own: u8) -> Result<(), u8> {
+    need(sized, 1)?;
+    need(ordered, 2)?;
+    need(own == 0, own)
+}
+
+/// Of two own numbers the lower, unless its test passed.
+fn first(lower: u8, higher: u8) -> Result<(), u8> {
+    need(lower == 0, lower)?;
+    need(higher == 0, higher)
+}
+
 /// The ladder itself: lengths before the order of the state, that before the call's own test, of its two own numbers the lower
 /// first; on every input.
 pub fn ladder(bench: &mut Bench) -> Result<(), String> {
@@ -323,7 +306,7 @@ pub fn ladder(bench: &mut Bench) -> Result<(), String> {
         for passed in [false, true] {
             hold(
                 if passed { 0 } else { number },
-                &|| own(passed, number),
+                &|| code(need(passed, number)),
                 &|| format!("own number {}, passed {}", number, passed),
             )?;
         }
@@ -333,13 +316,13 @@ pub fn ladder(bench: &mut Bench) -> Result<(), String> {
             (true, false, 2),
             (true, true, number),
         ] {
-            hold(wanted, &|| lowest(sized, ordered, number), &|| {
+            hold(wanted, &|| code(lowest(sized, ordered, number)), &|| {
                 format!("sized {}, ordered {}, own {}", sized, ordered, number)
             })?;
         }
         for higher in 0..=255 {
             let wanted = [higher, number][(number != 0) as usize];
-            hold(wanted, &|| first(number, higher), &|| {
+            hold(wanted, &|| code(first(number, higher)), &|| {
                 format!("own numbers {} and {}", number, higher)
             })?;
         }
@@ -455,7 +438,7 @@ fn lively(bench: &mut Bench) -> State {
     s.pipe.bg = states::bg_queue(random, bg);
     s.pipe.obj = states::sprite_queue(random, obj);
     s.pipe.fetcher.row = s.pipe.fetcher.row.map(|color| color % 4);
-    s.pipe.fetcher.waiting = Waiting::Row(rattle::bg_attribs::BgAttribute {
+    s.pipe.fetcher.waiting = Some(rattle::bg_attribs::BgAttribute {
         bits: random.byte(),
     });
     s
@@ -503,7 +486,7 @@ pub fn disorder(bench: &mut Bench) -> Result<(), String> {
         for k in round as usize..8 {
             s.pipe.obj.pixels[(s.pipe.obj.head as usize + k) % 8].obp = 255;
         }
-        s.pipe.fetcher.waiting = Waiting::Nothing;
+        s.pipe.fetcher.waiting = None;
         s.pipe.fetcher.row = [255; 8];
         for call in ALL {
             let number = check(bench, call, &s, &mut m, &kept)?;

@@ -1,11 +1,12 @@
 //! Runs: the oracle's lists of random calls, answered by both sides from one start, the state compared after every call.
 
-use crate::bench::{Bench, Given, Memory};
+use crate::bench::{number, Bench, Given, Memory};
 use crate::step;
 use given::machine_lists;
 use rattle::hardware::Machine;
 use rattle::ppu;
-use rattle::sprite::SelectedSprite;
+use rattle::refusals::Refusal;
+use rattle::sprite::{SelectedSprite, Selection};
 use rattle::state::State;
 use std::cell::Cell;
 use std::io::{self, Write};
@@ -27,35 +28,31 @@ pub fn answer(
             let (dmg, cgb) = (q[1] != 0, q[2] != 0);
             let machine = Machine { dmg, cgb };
             let t = ppu::start(machine, &mut m.vram, &mut m.oam, &mut m.a, &mut m.b);
-            (out[0], *s) = (t.number, t.state);
+            (out[0], *s) = match t {
+                Ok(state) => (0, state),
+                Err(refused) => (refused.why.number(), refused.state),
+            };
         }
         2 => return step::step(s, m, q[1]),
         3 => {
-            let t = ppu::write_register(*s, &mut m.a, &mut m.b, address, q[3]);
-            (out[0], *s) = (t.number, t.state);
+            let t = ppu::write_register(s, &mut m.a, &mut m.b, address, q[3]);
+            out[0] = number(&t);
         }
-        4 => {
-            let t = ppu::read_register(*s, address);
-            (out[0], out[1], *s) = (t.number, t.value, t.state);
-        }
-        5 => {
-            let t = ppu::write_vram(*s, &mut m.vram, address, q[3]);
-            (out[0], *s) = (t.number, t.state);
-        }
-        6 => out[0] = ppu::write_oam(&mut m.oam, address, q[3]),
-        7 => {
-            let t = ppu::set_colour(*s, q[1] != 0);
-            (out[0], *s) = (t.number, t.state);
-        }
-        8 => {
-            let t = ppu::oam_bug(*s, &mut m.oam, q[1]);
-            (out[0], *s) = (t.number, t.state);
-        }
+        4 => (out[0], out[1]) = read(ppu::read_register(s, address)),
+        5 => out[0] = number(&ppu::write_vram(s, &mut m.vram, address, q[3])),
+        6 => out[0] = number(&ppu::write_oam(&mut m.oam, address, q[3])),
+        7 => out[0] = number(&ppu::set_colour(s, q[1] != 0)),
+        8 => out[0] = number(&ppu::oam_bug(s, &mut m.oam, q[1])),
         11 | 12 => {}
         13 => {
             let t = ppu::pick(&m.oam, q[1], q[2]);
-            (out[0], out[1]) = (t.number, t.selection.count);
-            slots.set(t.selection.slots);
+            out[0] = number(&t);
+            let picked = t.unwrap_or(Selection {
+                count: 0,
+                slots: rattle::sprite::blank(),
+            });
+            out[1] = picked.count;
+            slots.set(picked.slots);
         }
         14 if q[1] < 10 => {
             let SelectedSprite { sprite, index } = slots.get()[q[1] as usize];
@@ -67,25 +64,18 @@ pub fn answer(
             let mode = s.regs.stat % 4;
             out[1..8].copy_from_slice(&[b.line, cycle[0], cycle[1], b.x, mode, end[0], end[1]]);
         }
-        16 => {
-            let t = ppu::locked_write_vram(*s, &mut m.vram, address, q[3]);
-            (out[0], *s) = (t.number, t.state);
-        }
-        17 => {
-            let t = ppu::locked_read_vram(*s, &m.vram, address);
-            (out[0], out[1], *s) = (t.number, t.value, t.state);
-        }
-        18 => {
-            let t = ppu::locked_write_oam(*s, &mut m.oam, address, q[3]);
-            (out[0], *s) = (t.number, t.state);
-        }
-        19 => {
-            let t = ppu::locked_read_oam(*s, &m.oam, address);
-            (out[0], out[1], *s) = (t.number, t.value, t.state);
-        }
+        16 => out[0] = number(&ppu::locked_write_vram(s, &mut m.vram, address, q[3])),
+        17 => (out[0], out[1]) = read(ppu::locked_read_vram(s, &m.vram, address)),
+        18 => out[0] = number(&ppu::locked_write_oam(s, &mut m.oam, address, q[3])),
+        19 => (out[0], out[1]) = read(ppu::locked_read_oam(s, &m.oam, address)),
         _ => out[0] = 255,
     }
     out
+}
+
+/// The number of a read and its value, 0 where it is refused.
+fn read(t: Result<u8, Refusal>) -> (u8, u8) {
+    (number(&t), t.unwrap_or(0))
 }
 
 /// What a list is written to: it makes each call on both sides.

@@ -7,7 +7,7 @@ use rattle::colors::{ColorPalette, PaletteSet};
 use rattle::fifo::{BgFifo, BgFifoPixel, SpriteFifo, SpriteFifoPixel};
 use rattle::hardware::Machine;
 use rattle::sprite::{SelectedSprite, Selection, Sprite};
-use rattle::state::{Beam, Fetcher, Palettes, Pipe, Registers, State, Waiting};
+use rattle::state::{Beam, Fetcher, Palettes, Pipe, Registers, State};
 
 /// A machine in colour mode.
 pub const COLOUR: Machine = Machine {
@@ -211,11 +211,11 @@ fn pipe(random: &mut Random) -> Pipe {
     fill(random, &mut row);
     let waiting = if flag(random) {
         row = row.map(|color| color % 4);
-        Waiting::Row(BgAttribute {
+        Some(BgAttribute {
             bits: random.byte(),
         })
     } else {
-        Waiting::Nothing
+        None
     };
     let (bg, obj) = (random_below(random, 17), random_below(random, 9));
     Pipe {
@@ -292,7 +292,7 @@ pub fn plain(s: &State) -> State {
     let mut out = *s;
     out.pipe.bg = plain_bg(&s.pipe.bg);
     out.pipe.obj = plain_sprites(&s.pipe.obj);
-    if s.pipe.fetcher.waiting == Waiting::Nothing {
+    if s.pipe.fetcher.waiting.is_none() {
         out.pipe.fetcher.row = [0; 8];
     }
     out
@@ -330,19 +330,19 @@ impl Cell for bool {
 }
 
 /// A row that waits is 256 and its attribute.
-impl Cell for Waiting {
+impl Cell for Option<BgAttribute> {
     fn get(&self) -> u64 {
         match self {
-            Waiting::Row(t) => 256 + t.bits as u64,
-            Waiting::Nothing => 0,
+            Some(t) => 256 + t.bits as u64,
+            None => 0,
         }
     }
 
     fn put(&mut self, value: u64) {
         *self = if value < 256 {
-            Waiting::Nothing
+            None
         } else {
-            Waiting::Row(BgAttribute { bits: value as u8 })
+            Some(BgAttribute { bits: value as u8 })
         };
     }
 }

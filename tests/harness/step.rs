@@ -1,18 +1,20 @@
 //! One step, from any state in order.
 
-use crate::bench::{Bench, Memory};
+use crate::bench::{number, Bench, Memory};
 use crate::states;
 use rattle::ppu;
 use rattle::state::State;
 
 /// The answer to a step as the protocol `machine` has it.
 pub fn step(s: &mut State, m: &mut Memory, cycles: u8) -> [u8; 16] {
-    let t = ppu::step(*s, &m.vram, &m.oam, &mut m.a, &mut m.b, cycles);
-    *s = t.state;
-    let r = t.report;
+    let t = ppu::step(s, &m.vram, &m.oam, &mut m.a, &mut m.b, cycles);
     let mut answer = [0; 16];
-    answer[..7].copy_from_slice(&[
-        t.number,
+    answer[0] = number(&t);
+    let r = match t {
+        Ok(report) => report,
+        Err(_) => return answer,
+    };
+    answer[1..7].copy_from_slice(&[
         r.requests,
         r.mode,
         r.coincidence as u8,

@@ -9,7 +9,7 @@ use crate::states;
 use given::machine::Machine;
 use given::ppu::Ppu;
 use rattle::sprite::Sprite;
-use rattle::tiles::{self, Address, Fetch, Source};
+use rattle::tiles::{self, Address, Fetch};
 use std::cell::RefCell;
 
 /// A row: its colours, what the two bytes at its source say, and its colours once these are turned round.
@@ -29,16 +29,16 @@ impl Decoder {
     }
 
     /// The row of the two bytes at a source, which stand side by side in VRAM; eight 0s where nothing was read.
-    fn row(&self, vram: &[u8], source: Source) -> [u8; 8] {
+    fn row(&self, vram: &[u8], source: Option<Address>) -> [u8; 8] {
         match source {
-            Source::ReadAt(address) => {
+            Some(address) => {
                 let at = place(address);
                 self.0
                     .borrow_mut()
                     .ppu
                     .part_decode([vram[at], vram[at + 1]])
             }
-            Source::NothingRead => [0; 8],
+            None => [0; 8],
         }
     }
 }
@@ -48,10 +48,10 @@ fn place(address: Address) -> usize {
 }
 
 /// What the given text gives once the bytes that a source names are turned round, all of VRAM where it names none.
-fn turned<T>(ppu: &mut Ppu, source: Source, given: impl Fn(&mut Ppu) -> T) -> T {
+fn turned<T>(ppu: &mut Ppu, source: Option<Address>, given: impl Fn(&mut Ppu) -> T) -> T {
     let bytes = match source {
-        Source::ReadAt(address) => place(address)..place(address) + 2,
-        Source::NothingRead => 0..16384,
+        Some(address) => place(address)..place(address) + 2,
+        None => 0..16384,
     };
     let turn = |ppu: &mut Ppu| {
         let bytes = ppu.part_vram().get_mut(bytes.clone());
@@ -64,20 +64,20 @@ fn turned<T>(ppu: &mut Ppu, source: Source, given: impl Fn(&mut Ppu) -> T) -> T 
 }
 
 /// Colours whose bytes are turned round, where they were read.
-fn opposite(colors: [u8; 8], source: Source) -> [u8; 8] {
+fn opposite(colors: [u8; 8], source: Option<Address>) -> [u8; 8] {
     match source {
-        Source::ReadAt(_) => colors.map(|color| 3 - color),
-        Source::NothingRead => colors,
+        Some(_) => colors.map(|color| 3 - color),
+        None => colors,
     }
 }
 
 /// Whether the place of the map that a fetch looks at has a byte of the row.
-fn is_own_map(f: Fetch, source: Source) -> bool {
+fn is_own_map(f: Fetch, source: Option<Address>) -> bool {
     let base = if f.lcdc & 0x40 != 0 { 0x9C00 } else { 0x9800 };
     let map = base + f.wrow as u16 / 8 * 32 + f.column as u16;
     match source {
-        Source::ReadAt(address) => f.window && map % 8192 / 2 == address.offset / 2,
-        Source::NothingRead => false,
+        Some(address) => f.window && map % 8192 / 2 == address.offset / 2,
+        None => false,
     }
 }
 
@@ -104,7 +104,7 @@ pub fn rows(bench: &mut Bench) -> Result<(), String> {
                 |ppu, b| {
                     let address = address(b);
                     let colors = ppu.part_row(address.bank, address.offset);
-                    (colors, Source::ReadAt(address))
+                    (colors, Some(address))
                 },
                 |vram, b| {
                     let row = tiles::tile_row(vram, address(b));

@@ -4,6 +4,7 @@ use crate::scene::{Kind, Scene, BANK, LCDC, REGISTERS};
 use rattle::beam::Mark;
 use rattle::hardware::Machine;
 use rattle::ppu;
+use rattle::refusals::Refusal;
 use rattle::state::State;
 
 struct Unit {
@@ -14,18 +15,17 @@ struct Unit {
     b: Vec<u8>,
 }
 
-fn done(number: u8) {
-    assert_eq!(number, 0, "a call of the scene is refused");
+fn done<T>(answer: Result<T, Refusal>) -> T {
+    answer.expect("a call of the scene is refused")
 }
 
 impl Unit {
     fn start(machine: Machine) -> Self {
         let [mut vram, mut oam] = [vec![0; 2 * BANK], vec![0; 160]];
         let [mut a, mut b] = [vec![0; 3 * 160 * 144], vec![0; 3 * 160 * 144]];
-        let t = ppu::start(machine, &mut vram, &mut oam, &mut a, &mut b);
-        done(t.number);
+        let started = ppu::start(machine, &mut vram, &mut oam, &mut a, &mut b);
         Unit {
-            state: t.state,
+            state: done(started.map_err(|refused| refused.why)),
             vram,
             oam,
             a,
@@ -35,18 +35,15 @@ impl Unit {
 
     fn write(&mut self, low: u8, value: u8) {
         let address = 0xff00 + low as u16;
-        let t = ppu::write_register(self.state, &mut self.a, &mut self.b, address, value);
-        done(t.number);
-        self.state = t.state;
+        let (a, b) = (&mut self.a, &mut self.b);
+        done(ppu::write_register(&mut self.state, a, b, address, value));
     }
 
     fn write_bank(&mut self, bank: u8, bytes: &[u8]) {
         self.write(0x4f, bank);
         for (at, &byte) in bytes.iter().enumerate() {
             let address = 0x8000 + at as u16;
-            let t = ppu::write_vram(self.state, &mut self.vram, address, byte);
-            done(t.number);
-            self.state = t.state;
+            done(ppu::write_vram(&self.state, &mut self.vram, address, byte));
         }
     }
 
@@ -61,11 +58,9 @@ impl Unit {
     fn frame(&mut self) -> Mark {
         for _ in 0..154 * 456 / 4 {
             let (a, b) = (&mut self.a, &mut self.b);
-            let t = ppu::step(self.state, &self.vram, &self.oam, a, b, 4);
-            done(t.number);
-            self.state = t.state;
-            if t.report.swapped {
-                return t.report.mark;
+            let report = done(ppu::step(&mut self.state, &self.vram, &self.oam, a, b, 4));
+            if report.swapped {
+                return report.mark;
             }
         }
         panic!("no swap in the steps of a frame")
@@ -94,5 +89,5 @@ pub fn picture(scene: &Scene) -> Vec<u8> {
     }
     assert!(unit.frame() == Mark::Unseen, "the first picture is not whole but unseen");
     assert!(unit.frame() == Mark::Whole, "the second picture is not whole");
-    ppu::screen_buffer(unit.state, &unit.a, &unit.b).to_vec()
+    ppu::screen_buffer(&unit.state, &unit.a, &unit.b).to_vec()
 }

@@ -18,7 +18,7 @@ pub enum Mark {
 }
 
 impl Mark {
-    // The number of a mark.
+    // The number of a mark. docs/CHANGING.md names it, so it is no `From<Mark>`.
     pub fn number(self) -> u8
         ensures { result ≡ mark_number self }
     {
@@ -77,24 +77,20 @@ pub fn does_swap(b: Beam, cycles: u8) -> bool
     requires { (b.cycle + cycles ≤ line_cycles) × (b.line < frame_lines) }
     ensures { result ≡ swaps cycles b }
 {
-    if b.cycle + cycles as u16 != Machine::LINE_CYCLES {
-        return false;
-    }
-    b.line + 1 == Machine::FRAME_LINES
+    b.cycle + cycles as u16 == Machine::LINE_CYCLES && b.line + 1 == Machine::FRAME_LINES
 }
 
 // Whether the picture that a step ends is whole.
+#[tactic(auto, unfolding(crate::specs::Advance::whole))]
 pub fn is_whole(b: Beam, cycles: u8) -> bool
     requires { (b.cycle + cycles ≤ line_cycles) × (b.line < frame_lines) }
     ensures { result ≡ whole cycles b }
 {
-    if !does_swap(b, cycles) {
-        return false;
-    }
-    b.count as usize == Machine::PLACES
+    does_swap(b, cycles) && b.count as usize == Machine::PLACES
 }
 
 // The mark of the picture that a step ends; no where it ends none.
+#[tactic(auto, unfolding(crate::specs::Marks::mark_of))]
 pub fn mark_of(b: Beam, cycles: u8) -> Mark
     requires { (b.cycle + cycles ≤ line_cycles) × (b.line < frame_lines) }
     ensures { result ≡ mark_of cycles b }
@@ -109,6 +105,7 @@ pub fn mark_of(b: Beam, cycles: u8) -> Mark
 }
 
 // The cycle advances; at 456 the next line, after line 153 the next frame.
+#[tactic(auto, unfolding(crate::specs::Advance::advanced_beam))]
 pub fn advance(b: Beam, cycles: u8) -> Beam
     requires { (b.cycle + cycles ≤ line_cycles) × (b.line < frame_lines) × (b.shown ≤ 1) }
     ensures { result ≡ advanced_beam cycles b }

@@ -9,116 +9,99 @@ mod lines;
 mod page;
 mod say;
 mod shelf;
+mod tally;
+mod trouble;
+mod unit;
 
-use desk::Tally;
-use hardware::Machine;
-use lines::{Going, Reading};
+use desk::Desk;
+use shelf::Shelf;
 use std::env::{Env, FillError};
 use std::fs::{File, OpenFile};
 use std::io::{Read, Write};
 use std::rt::Files;
-use std::{fs, io, str};
+use std::{fmt, fs, io, str};
+use trouble::Failed;
+
+// The text of some bytes; nothing where they are none.
+pub fn text_of(bytes: &[u8]) -> &str {
+    str::from_utf8(bytes).unwrap_or("")
+}
+
+// The paths of a capture, of the folder for its pictures, and of the page there.
+#[derive(Clone, Copy)]
+struct Paths<'a> {
+    capture: &'a str,
+    folder: &'a str,
+    page: &'a str,
+}
 
 // Says that a file could not be opened, made or written.
-fn failed(rt: &impl Eprint, path: &str, why: io::Error) {
-    say::error(rt, "bench: ");
-    say::failed(rt, path, why);
-}
-
-// Says why something was not written, if it was not, and answers whether it was.
-fn is_written(rt: &impl Eprint, path: &str, written: io::Result<()>) -> bool {
-    match written {
-        Ok(()) => true,
-        Err(why) => {
-            failed(rt, path, why);
-            false
-        }
+fn report(rt: &impl Eprint, done: Result<(), Failed>) {
+    if let Err(failed) = done {
+        let _ = eprintln!(rt; "bench: {failed}");
     }
 }
 
-// The end: the counts on the page and on standard output, or on the page where the capture stopped.
-fn end(rt: &(impl Print + Eprint), reading: Reading, page: &mut impl Write, page_path: &str) {
-    let tally = reading.desk.tally;
-    let going = reading.going;
-    match going {
-        Going::Ended => {
-            let ended = page::end(page, tally.pictures, tally.whole, tally.unseen, tally.torn);
-            if is_written(rt, page_path, ended) {
-                let told = say::done(rt, tally.pictures, tally.whole, tally.unseen, tally.torn);
-                is_written(rt, "standard output", told);
-            }
-        }
-        _ => {
-            is_written(rt, page_path, page::stop(page, reading.line));
-        }
-    }
-}
-
-// Draws a capture into a folder whose page is begun.
-fn draw(
+// Draws a capture onto a page that is not begun. It ends with the counts, which are told on standard output too, or with the line where
+// the capture stopped.
+fn draw<'a, W: Write>(
     rt: &(impl Files + Print + Eprint),
-    path: &str,
-    folder: &str,
-    name: &[u8],
+    paths: Paths<'a>,
+    desk: &mut Desk<'_, W>,
     source: &mut impl Read,
-    page: &mut impl Write,
-    page_path: &str,
-) {
-    let mut vram = [0u8; Machine::VRAM_BYTES];
-    let mut oam = [0u8; Machine::OAM_BYTES];
-    let mut a = [255u8; Machine::PICTURE_BYTES];
-    let mut b = [255u8; Machine::PICTURE_BYTES];
-    if !is_written(rt, page_path, page::begin(page, name)) {
-        return;
-    }
-    let reading = lines::run(
-        rt, &mut vram, &mut oam, &mut a, &mut b, path, folder, name, page, source,
-    );
-    end(rt, reading, page, page_path);
-}
-
-// Makes the page, which no folder with pictures in it lacks: so one that is there stops it, and nothing is overwritten.
-fn begin(rt: &(impl Files + Print + Eprint), path: &str, folder: &str, source: &mut impl Read) {
-    let mut page_path = [0u8; 4096];
-    let length = shelf::path_of(folder.as_bytes(), b"index.html", &mut page_path);
-    let page_path = say::text_of(&page_path[..length]);
-    match File::create_new(rt, page_path) {
-        Ok(mut page) => {
-            let mut name = [0u8; filing::NAME_BYTES];
-            let shown = filing::shown_name(path.as_bytes(), &mut name);
-            draw(
-                rt,
-                path,
-                folder,
-                &name[..shown],
-                source,
-                &mut page,
-                page_path,
-            );
-            is_written(rt, page_path, page.sync_all());
+) -> Result<(), Failed<'a>> {
+    let name = text_of(desk.shelf.capture.as_bytes());
+    Failed::at(paths.page, page::begin(&mut desk.page, name))?;
+    match lines::run(rt, desk, source) {
+        Ok(()) => {
+            Failed::at(paths.page, page::end(&mut desk.page, desk.tally))?;
+            Failed::at("standard output", say::done(rt, desk.tally))
         }
-        Err(why) => failed(rt, page_path, why),
+        Err(stop) => {
+            say::stopped(rt, paths.capture, desk.line, stop);
+            Failed::at(paths.page, page::stop(&mut desk.page, desk.line))
+        }
     }
 }
 
 // Makes a folder where it is missing.
 fn make_folder(rt: &impl Files, folder: &str) -> io::Result<()> {
     match fs::create_dir(rt, folder) {
-        Ok(()) => Ok(()),
-        Err(why) if why.kind() == io::ErrorKind::AlreadyExists => Ok(()),
-        Err(why) => Err(why),
+        Err(why) if why.kind() != io::ErrorKind::AlreadyExists => Err(why),
+        _ => Ok(()),
     }
 }
 
-// The folder is made where it is missing.
-fn draw_into(rt: &(impl Files + Print + Eprint), path: &str, folder: &str) {
-    match fs::open(rt, path) {
-        Ok(mut source) => {
-            if is_written(rt, folder, make_folder(rt, folder)) {
-                begin(rt, path, folder, &mut source);
-            }
+// Makes the folder where it is missing, and the page, which no folder with pictures in it lacks: so one that is there stops it, and
+// nothing is overwritten.
+fn draw_into<'a>(rt: &(impl Files + Print + Eprint), paths: Paths<'a>) -> Result<(), Failed<'a>> {
+    let mut source = Failed::at(paths.capture, fs::open(rt, paths.capture))?;
+    Failed::at(paths.folder, make_folder(rt, paths.folder))?;
+    let page = Failed::at(paths.page, File::create_new(rt, paths.page))?;
+    let shelf = Shelf {
+        folder: paths.folder,
+        capture: filing::shown_name(paths.capture.as_bytes()),
+    };
+    let mut desk = Desk::new(shelf, page);
+    report(rt, draw(rt, paths, &mut desk, &mut source));
+    Failed::at(paths.page, desk.page.sync_all())
+}
+
+// Why the arguments cannot be taken: there are not two; one is no path, by its name; the folder's is too long.
+#[derive(Clone, Copy)]
+enum Unusable {
+    Count,
+    Argument(&'static str, &'static str),
+    LongFolder,
+}
+
+impl fmt::Display for Unusable {
+    fn fmt<W: fmt::Write>(&self, f: &mut fmt::Formatter<W>) -> fmt::Result {
+        match self {
+            Unusable::Count => f.write_str("usage: bench CAPTURE FOLDER"),
+            Unusable::Argument(name, why) => write!(f, "bench: {name}: {why}"),
+            Unusable::LongFolder => f.write_str("bench: FOLDER is longer than 4000 bytes"),
         }
-        Err(why) => failed(rt, path, why),
     }
 }
 
@@ -127,48 +110,45 @@ fn is_given(env: &impl Env, number: usize) -> bool {
     !matches!(env.arg(number, &mut []), Err(FillError::NotPresent))
 }
 
-// An argument, at the start of a buffer, or why there is none.
+// An argument, at the start of a buffer.
 fn argument<'a>(
     env: &impl Env,
     number: usize,
+    name: &'static str,
     buffer: &'a mut [u8; 4096],
-) -> Result<&'a str, &'static str> {
+) -> Result<&'a str, Unusable> {
+    let unusable = |why| Unusable::Argument(name, why);
     match env.arg(number, buffer) {
-        Ok(length) => match str::from_utf8(&buffer[..length]) {
-            Ok(text) => Ok(text),
-            Err(_) => Err("not UTF-8"),
-        },
-        Err(FillError::TooLong) => Err("File name too long"),
-        Err(FillError::NotPresent) => Err("Invalid argument"),
+        Ok(length) => str::from_utf8(&buffer[..length]).map_err(|_| unusable("not UTF-8")),
+        Err(FillError::TooLong) => Err(unusable("File name too long")),
+        Err(FillError::NotPresent) => Err(unusable("Invalid argument")),
     }
-}
-
-// Says that an argument cannot be taken.
-fn refuse(rt: &impl Eprint, name: &str, why: &str) {
-    let _ = eprintln!(rt; "bench: {name}: {why}");
 }
 
 // Draws the capture and folder that the arguments name.
-fn draw_named(rt: &(impl Files + Env + Print + Eprint)) {
-    let mut path = [0u8; 4096];
-    let path = match argument(rt, 1, &mut path) {
-        Ok(path) => path,
-        Err(why) => return refuse(rt, "CAPTURE", why),
-    };
-    let mut folder = [0u8; 4096];
-    let folder = match argument(rt, 2, &mut folder) {
-        Ok(folder) => folder,
-        Err(why) => return refuse(rt, "FOLDER", why),
-    };
-    if folder.len() > shelf::FOLDER_BYTES {
-        return say::error(rt, "bench: FOLDER is longer than 4000 bytes\n");
+fn draw_named(rt: &(impl Files + Env + Print + Eprint)) -> Result<(), Unusable> {
+    if is_given(rt, 3) || !is_given(rt, 2) {
+        return Err(Unusable::Count);
     }
-    draw_into(rt, path, folder);
+    let mut buffer = [0u8; 4096];
+    let capture = argument(rt, 1, "CAPTURE", &mut buffer)?;
+    let mut buffer = [0u8; 4096];
+    let folder = argument(rt, 2, "FOLDER", &mut buffer)?;
+    if folder.len() > shelf::FOLDER_BYTES {
+        return Err(Unusable::LongFolder);
+    }
+    let page = shelf::path_of(folder, "index.html");
+    let paths = Paths {
+        capture,
+        folder,
+        page: page.as_str(),
+    };
+    report(rt, draw_into(rt, paths));
+    Ok(())
 }
 
 fn main(rt: HostRuntime) {
-    if is_given(&rt, 3) || !is_given(&rt, 2) {
-        return say::error(&rt, "usage: bench CAPTURE FOLDER\n");
+    if let Err(why) = draw_named(&rt) {
+        let _ = rt.eprintln(why);
     }
-    draw_named(&rt);
 }

@@ -1,38 +1,29 @@
 // The folder that pictures are filed in: paths, and a picture's file. A file appears under its name only when all of it is written.
-ghost use Rattle.texts.specs.Appended.{IsPrefixLen};
-
-use crate::say;
-use beam::Mark;
+use crate::trouble::{Failed, Trouble};
+use crate::{say, text_of};
+use filing::Label;
+use std::fmt::InlineText;
 use std::fs::{File, OpenFile};
 use std::io::Write;
 use std::rt::Files;
 use std::{fs, io};
+use texts::Text;
 
-// The longest path of a folder, and the longest name of a file in it.
+// The longest path of a folder, and room for that of a file in it, whose name has at most 32 bytes.
 pub const FOLDER_BYTES: usize = 4000;
 
-const NAME_BYTES: usize = 32;
+pub const PATH_BYTES: usize = 4096;
 
-// The path of a file in a folder, at the start of a buffer; nothing where one of the two is too long.
-pub fn path_of(folder: &[u8], name: &[u8], out: &mut [u8; 4096]) -> usize
-    ensures { IsPrefixLen result out.new }
-{
-    if folder.len() > FOLDER_BYTES {
-        return 0;
-    }
-    if name.len() > NAME_BYTES {
-        return 0;
-    }
-    let slash = texts::put_bytes(out, 0, folder);
-    let start = texts::put_byte(out, slash, b'/');
-    texts::put_bytes(out, start, name)
+// A folder, and the name of the capture whose pictures it holds.
+#[derive(Drop)]
+pub struct Shelf<'a> {
+    pub folder: &'a str,
+    pub capture: Text<{ filing::NAME_BYTES }>,
 }
 
-// Says why a file could not be written, and takes away what there is of it.
-fn give_up(rt: &(impl Files + Eprint), path: &str, part: &str, why: io::Error) -> bool {
-    say::failed(rt, path, why);
-    let _ = fs::remove_file(rt, part);
-    false
+// The path of a file in a folder.
+pub fn path_of(folder: &str, name: &str) -> InlineText<PATH_BYTES> {
+    InlineText::of(format_args!("{folder}/{name}"))
 }
 
 // Whether there is a file of that name.
@@ -46,58 +37,52 @@ fn fill(file: &mut (impl Write + OpenFile), bytes: &[u8]) -> io::Result<()> {
     file.sync_all()
 }
 
-// Makes a new file of these bytes, which is there to its end.
-fn make_file(rt: &(impl Files + Eprint), path: &str, part: &str, bytes: &[u8]) -> bool {
-    match File::create_new(rt, part) {
-        Ok(mut file) => match fill(&mut file, bytes) {
-            Ok(()) => true,
-            Err(why) => give_up(rt, path, part, why),
-        },
-        Err(why) => {
-            say::failed(rt, part, why);
-            false
-        }
-    }
+// Says why a picture could not be filed.
+fn unfiled(rt: &impl Eprint, what: &str, why: io::Error) -> Trouble {
+    say::failed(rt, Failed { what, why });
+    Trouble::NotFiled
 }
 
-// Writes a new file: under another name first, so that no part of it is ever seen under its own.
-fn write_file(rt: &(impl Files + Eprint), path: &str, part: &str, bytes: &[u8]) -> bool {
-    if is_taken(rt, path) {
-        say::error(rt, path);
-        say::error(rt, ": there is a file of that name\n");
-        return false;
-    }
-    if !make_file(rt, path, part, bytes) {
-        return false;
-    }
-    match fs::rename(rt, part, path) {
-        Ok(()) => true,
-        Err(why) => give_up(rt, path, part, why),
-    }
-}
-
-// Files a picture with what is known of it. What is wrong has been said where the answer is no.
-pub fn file_picture(
+// Writes a new file: under another name first, so that no part of it is ever seen under its own. Where it cannot, says why, and then takes
+// away what there is of it.
+fn write_file(
     rt: &(impl Files + Eprint),
-    folder: &str,
-    capture: &[u8],
-    picture: &[u8],
-    number: u32,
-    mark: Mark,
-    stored: u16,
-) -> bool {
-    let mut bytes = [0u8; filing::FILE_BYTES];
-    let size = filing::file_of(&mut bytes, picture, number, mark, stored, capture);
-    let mut name = [0u8; 32];
-    let length = filing::name_of(number, mark, &mut name);
-    let mut path = [0u8; 4096];
-    let end = path_of(folder.as_bytes(), &name[..length], &mut path);
-    let mut part = [0u8; 4096];
-    let part_end = path_of(folder.as_bytes(), b"picture.part", &mut part);
-    write_file(
-        rt,
-        say::text_of(&path[..end]),
-        say::text_of(&part[..part_end]),
-        &bytes[..size],
-    )
+    path: &str,
+    part: &str,
+    bytes: &[u8],
+) -> Result<(), Trouble> {
+    if is_taken(rt, path) {
+        let why = io::Error::new(io::ErrorKind::AlreadyExists, "there is a file of that name");
+        return Err(unfiled(rt, path, why));
+    }
+    let filled = {
+        let mut file = File::create_new(rt, part).map_err(|why| unfiled(rt, part, why))?;
+        fill(&mut file, bytes)
+    };
+    filled
+        .and_then(|()| fs::rename(rt, part, path))
+        .map_err(|why| {
+            let trouble = unfiled(rt, path, why);
+            let _ = fs::remove_file(rt, part);
+            trouble
+        })
+}
+
+impl Shelf<'_> {
+    // Files a picture with what is known of it; where it cannot, says why.
+    pub fn file(
+        &self,
+        rt: &(impl Files + Eprint),
+        picture: &[u8],
+        label: Label,
+    ) -> Result<(), Trouble> {
+        let mut file = Text::new();
+        filing::file_of(&mut file, picture, label, self.capture.as_bytes()).map_err(
+            |_| Trouble::NotFiled,
+        )?;
+        let name = filing::name_of(label.number, label.mark);
+        let path = path_of(self.folder, text_of(name.as_bytes()));
+        let part = path_of(self.folder, "picture.part");
+        write_file(rt, path.as_str(), part.as_str(), file.as_bytes())
+    }
 }

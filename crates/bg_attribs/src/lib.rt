@@ -10,7 +10,7 @@ pub struct BgAttribute {
 }
 
 impl BgAttribute {
-    // The byte as an attribute; no bit of it is dropped.
+    // The byte as an attribute; no bit of it is dropped. docs/PROMISES.md names it `new`, so it is no `From<u8>`.
     pub fn new(byte: u8) -> Self
         ensures { result.bits ≡ byte }
     {

@@ -1,4 +1,5 @@
 -- What the window, the fetcher and the row that goes in mean for the numbers of the pipe.
+use Rattle.std.proofs.Common.{Option, Some, None}
 use mathlib.Core.Path.{◌≡◌, refl}
 use mathlib.Core.Bool.{Bool, true, false, not, cond, ◌&&◌, ◌||◌}
 use mathlib.Core.List.{List}
@@ -10,8 +11,6 @@ use Rattle.wrap.specs.Wrap.{minus}
 use Rattle.tiles.specs.Map.{fetch_bg}
 use Rattle.state.specs.With.{with_fetcher}
 use Rattle.state.specs.declared.Registers.{Registers}
-use Rattle.state.specs.declared.Waiting.{Waiting}
-use Rattle.state.specs.declared.Waiting.TheVariants.{Row, Nothing}
 use Rattle.state.specs.declared.Pipe.{Pipe}
 use Rattle.state.specs.declared.State.{State}
 use Rattle.pipe.specs.Window.{reached, discard_at, windowed}
@@ -19,10 +18,11 @@ use Rattle.pipe.specs.Fetching.{fetch_of, took_row, waited, fed}
 use Rattle.pipe.proofs.Ways.{fetched_cases, fed_cases}
 use Rattle.draw.specs.Draw.{fed_pipe}
 use Rattle.bound.specs.Potential.{waits, filled, Paced}
+use Rattle.bg_attribs.specs.declared.BgAttribute.{BgAttribute}
 
-pub waits_most : (w : Waiting) → waits w ≤ 8
-waits_most (Row t) = omega arith
-waits_most Nothing = omega arith
+pub waits_most : (w : Option BgAttribute) → waits w ≤ 8
+waits_most (Some t) = omega arith
+waits_most None = omega arith
 
 -- an entry discards at most seven, where nothing was to be discarded after the first place
 pub entry_short : (x wx discard : ℕ) → reached x wx ≡ true → (0 < x → discard ≡ 0) → discard_at wx discard ≤ 7
@@ -117,10 +117,10 @@ module _ (palettes : List ℕ) (p : Pipe) where
           → 16 - (p.bg.len + 8 + 0 + (8 - 8)) ≤ 15 - filled p
       pushed run behind = by p.fetcher.waiting refl (behind (omega arith))
         where
-          by : (w : Waiting) → p.fetcher.waiting ≡ w → waits p.fetcher.waiting ≤ p.bg.len
+          by : (w : Option BgAttribute) → p.fetcher.waiting ≡ w → waits p.fetcher.waiting ≤ p.bg.len
               → 16 - (p.bg.len + 8 + 0 + (8 - 8)) ≤ 15 - filled p
-          by (Row t) e b = let f : waits p.fetcher.waiting ≡ 8 = rw e refl in omega arith
-          by Nothing e b = let f : waits p.fetcher.waiting ≡ 0 = rw e refl in omega arith
+          by (Some t) e b = let f : waits p.fetcher.waiting ≡ 8 = rw e refl in omega arith
+          by None e b = let f : waits p.fetcher.waiting ≡ 0 = rw e refl in omega arith
 
 pub fed_pipe_law : (allowed : Bool) (vram : List ℕ) (s : State) → Fed (windowed allowed s.beam.x s.regs.wx s.pipe) (fed_pipe allowed vram s)
 unfolding fed_pipe

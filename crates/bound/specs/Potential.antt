@@ -1,18 +1,17 @@
 -- 01, "One draw", and Pan Docs, "Pixel FIFO": a number of draws in which a line ends, whatever is written meanwhile.
-use Rattle.std.specs.Prelude.{ℕ, ◌+◌, ◌-◌, ◌≤◌, ◌<◌, ◌≡◌, Bool, false, cond, ◌⊎◌, List, [], ◌∷◌, eqb, length}
+use Rattle.std.specs.Prelude.{ℕ, ◌+◌, ◌-◌, ◌≤◌, ◌<◌, ◌≡◌, Bool, false, cond, ◌⊎◌, List, [], ◌∷◌, eqb, length, Option, Some, None}
 use Rattle.hardware.specs.Screen.{width}
 use Rattle.state.specs.With.{mode_of}
-use Rattle.state.specs.declared.Waiting.{Waiting}
-use Rattle.state.specs.declared.Waiting.TheVariants.{Row, Nothing}
 use Rattle.state.specs.declared.Pipe.{Pipe}
 use Rattle.state.specs.declared.State.{State}
 use Rattle.order.specs.Fine.{Fine}
 use Rattle.draw.specs.Draw.{drawn_if}
+use Rattle.bg_attribs.specs.declared.BgAttribute.{BgAttribute}
 
 -- a row that waits is eight pixels
-abbrev pub waits : Waiting → ℕ
-waits (Row attribute) = 8
-waits Nothing = 0
+abbrev pub waits : Option BgAttribute → ℕ
+waits (Some attribute) = 8
+waits None = 0
 
 -- queued background pixels, those that wait, and how far the next fetch has come
 abbrev pub filled : Pipe → ℕ

@@ -1,4 +1,5 @@
 -- A run of draws: in mode 3 one draw and the others, else none; each answers a place on the screen or nothing.
+use Rattle.std.proofs.Common.{Option, Some, None}
 use mathlib.Core.Path.{◌≡◌, refl}
 use mathlib.Core.List.{List}
 use Prim.Native.Nat.{ℕ, zero, suc, ◌<◌}
@@ -14,11 +15,10 @@ use Rattle.state.specs.declared.State.{State}
 use Rattle.order.specs.Fine.{Fine}
 use Rattle.pipe.specs.Window.{opened}
 use Rattle.draw.specs.Draw.{drawn}
-use Rattle.draw.specs.declared.Shot.{Shot}
-use Rattle.draw.specs.declared.Shot.TheVariants.{Place, Nothing}
 use Rattle.draw.specs.declared.Drawn.{Drawn}
 use Rattle.draw.proofs.Ways.{drawn_cases}
 use Rattle.burst.specs.Burst.{Burst, still, after, burst, shot_stored, OnScreen}
+use Rattle.draw.specs.declared.Place.{Place}
 
 -- a draw in mode 3 answers a place on the screen, or nothing
 pub drawn_on_screen : (vram : List ℕ) (s : State) → Fine s → mode_of s.regs.stat ≡ 3 → OnScreen (drawn vram s).shot
@@ -28,9 +28,9 @@ drawn_on_screen vram s f m =
     (λ h. tt) (λ h d. tt) (λ h d o. here) (λ h d e. here)
 
 -- a store keeps the length of a picture
-pub shot_length : (picture : List ℕ) (shot : Shot) → length (shot_stored picture shot) ≡ length picture
-shot_length picture (Place x y p) = length-sets picture (offset x y) (rgb_bytes p)
-shot_length picture Nothing = refl
+pub shot_length : (picture : List ℕ) (shot : Option Place) → length (shot_stored picture shot) ≡ length picture
+shot_length picture (Some t) = length-sets picture (offset t.x t.y) (rgb_bytes t.rgb)
+shot_length picture None = refl
 
 -- in mode 3 a draw and the others, else none
 pub burst_cases : (n : ℕ) (vram : List ℕ) (s : State) (P : Burst → Type 0)

@@ -7,18 +7,17 @@ ghost use Rattle.hardware.specs.Tables.{vram_bytes};
 ghost use Rattle.order.specs.Fine.{Fine};
 ghost use Rattle.burst.specs.Burst.{OnScreen, shot_stored, Drew};
 
-use draw::Shot;
+use draw::Place;
 use state::State;
 
 // Stores what a draw answered in a picture.
-pub fn store_shot(picture: &mut [u8], shot: Shot)
+pub fn store_shot(picture: &mut [u8], shot: Option<Place>)
     requires { (length picture.old ≡ picture_bytes) × OnScreen shot }
     ensures { picture.new ≡ shot_stored picture.old shot }
 {
-    let Shot::Place(x, y, p) = shot else {
-        return;
-    };
-    lcd::store(picture, x, y, p);
+    if let Some(place) = shot {
+        lcd::store(picture, place.x, place.y, place.rgb);
+    }
 }
 
 // Draws once a cycle while mode 3 lasts, and stores each place.
@@ -27,24 +26,18 @@ pub fn draw_all(vram: &[u8], s: State, picture: &mut [u8], cycles: u8) -> State
     ensures { Drew cycles vram.now s picture.old result picture.new }
 {
     let mut state = s;
-    let mut k = 0;
-    while k < cycles {
+    for _ in 0..cycles {
         if state.regs.stat % 4 != 3 {
             return state;
         }
         if draw::does_join(state) {
-            let pipe = draw::prepare(vram, state);
-            state.pipe = pipe;
+            state.pipe = draw::prepare(vram, state);
         } else {
-            let pipe = draw::wait(state.pipe);
-            state.pipe = pipe;
+            state.pipe = draw::wait(state.pipe);
         }
         let drawn = draw::draw(state);
-        let shot = drawn.shot;
-        store_shot(picture, shot);
-        let next = drawn.state;
-        state = next;
-        k += 1;
+        store_shot(picture, drawn.shot);
+        state = drawn.state;
     }
     state
 }

@@ -1,46 +1,43 @@
 -- An argument of a call: what its word can mean, and how the reading of a call goes on behind it.
-use mathlib.Core.Path.{◌≡◌, refl, sym}
+use mathlib.Core.Path.{◌≡◌, refl, sym, ◌∙◌}
 use mathlib.Core.Bool.{Bool, true, false, cond, ◌&&◌}
 use mathlib.Core.List.{List, [], ◌∷◌}
-use Prim.Native.Nat.{ℕ, ◌+◌, ◌-◌, ◌*◌, ◌^◌, ◌%◌, ◌≤◌, ◌<◌}
+use Prim.Native.Nat.{ℕ, ◌+◌, ◌*◌, ◌^◌, ◌%◌, ◌≤◌, ◌<◌}
 use native.Mathlib.Omega.{arith}
 use lib.Dec.{eqb, leb, ltb}
-use lib.ListN.{length, take, drop}
+use lib.ListN.{length}
 use borrow.Author.Tests.{eqb-true, leb-true, ltb-true}
 use Rattle.logic.proofs.Both.{second}
-use Rattle.captures.specs.declared.Number.{Number}
-use Rattle.captures.specs.declared.Number.TheVariants.{Is, Bad}
+use Rattle.std.specs.Prelude.{Option, Some, None, Err, ok_or}
 use Rattle.captures.specs.declared.Wanted.{Wanted}
 use Rattle.captures.specs.declared.Wanted.TheVariants as wanted
 use Rattle.captures.specs.declared.Reason.{Reason}
-use Rattle.captures.specs.declared.Reason.TheVariants.{Missing, Extra}
-use Rattle.captures.specs.declared.Call.{Call}
-use Rattle.captures.specs.declared.Line.TheVariants as line
-use Rattle.captures.specs.Words.{words, is_same}
+use Rattle.captures.specs.declared.Reason.TheVariants.{Missing}
+use Rattle.captures.specs.Words.{is_same}
 use Rattle.captures.specs.Names.{colour_word, dmg_word, cgb_word, grey_word, on_word, off_word, write_word, read_word, read_write_word}
 use Rattle.captures.specs.Numbers.{digit_of, number_from}
-use Rattle.captures.specs.Reading.{either, kind_of, hexadecimal, bytes_of, within, decimal, meaning, wrong, is_optional, Then, onward, whole, read_call, said}
+use Rattle.captures.specs.Reading.{either, kind_of, hexadecimal, bytes_of, within, decimal, meaning, wrong, is_optional, Then, onward}
 use Rattle.captures.specs.Reading.{argument as argumentOf}
-use Rattle.captures.specs.Parts.{IsWord, limit, Went}
-use Rattle.captures.proofs.Words.{same_equal, part_length}
+use Rattle.captures.specs.Parts.{limit, Went}
+use Rattle.captures.proofs.Texts.{same_equal}
 use Rattle.captures.proofs.Numbers.{grows, fits}
 
 -- WHAT A WORD CAN MEAN
 
-abbrev Small : ℕ → List ℕ → Number → Type 0
-Small top w (Is v) = (v < top) × (length w ≤ 16)
-Small top w Bad = Unit
+abbrev Small : ℕ → List ℕ → Option ℕ → Type 0
+Small top w (Some v) = (v < top) × (length w ≤ 16)
+Small top w None = Unit
 
 -- a word that is one of the known ones
-known : (top v : ℕ) (w one : List ℕ) (rest : Number) → v < top → length one ≤ 16 → Small top w rest → Small top w (cond (is_same w one) (Is v) rest)
+known : (top v : ℕ) (w one : List ℕ) (rest : Option ℕ) → v < top → length one ≤ 16 → Small top w rest → Small top w (cond (is_same w one) (Some v) rest)
 known top v w one rest h l s = by (is_same w one) refl
   where
-    by : (b : Bool) → is_same w one ≡ b → Small top w (cond b (Is v) rest)
+    by : (b : Bool) → is_same w one ≡ b → Small top w (cond b (Some v) rest)
     by true e = (h, rw (same_equal w one e) l)
     by false e = s
 
 -- a word that a test refuses means nothing
-tested : (top : ℕ) (w : List ℕ) (b : Bool) (r : Number) → (b ≡ true → Small top w r) → Small top w (cond b r Bad)
+tested : (top : ℕ) (w : List ℕ) (b : Bool) (r : Option ℕ) → (b ≡ true → Small top w r) → Small top w (cond b r None)
 tested top w true r f = f refl
 tested top w false r f = tt
 
@@ -57,19 +54,19 @@ number_small base n i top w (b ∷ l) h t s =
     number_small base (n * base + digit_of b) (i + 1) top w l (grows base base n (digit_of b) i (omega arith) h (ltb-true _ _ e)) (rw more at t) s
 
 -- a number within bounds
-bounded : (top low high : ℕ) (w : List ℕ) (r : Number) → high < top → length w ≤ 16 → Small top w (within low high r)
+bounded : (top low high : ℕ) (w : List ℕ) (r : Option ℕ) → high < top → length w ≤ 16 → Small top w (within low high r)
 unfolding within
-bounded top low high w (Is n) h l = by (leb low n && leb n high) refl
+bounded top low high w (Some n) h l = by (leb low n && leb n high) refl
   where
-    by : (b : Bool) → (leb low n && leb n high) ≡ b → Small top w (cond b (Is n) Bad)
+    by : (b : Bool) → (leb low n && leb n high) ≡ b → Small top w (cond b (Some n) None)
     by true e = (omega (arith, leb-true n high (second (leb low n) _ e)), l)
     by false e = tt
-bounded top low high w Bad h l = tt
+bounded top low high w None h l = tt
 
 small : (k : Wanted) (w : List ℕ) → Small (limit k) w (meaning k w)
 unfolding meaning either kind_of hexadecimal bytes_of decimal
-small wanted.Device w = known 2 1 w dmg_word _ (omega arith) (omega arith) (known 2 0 w cgb_word Bad (omega arith) (omega arith) tt)
-small wanted.Colour w = known 2 1 w colour_word _ (omega arith) (omega arith) (known 2 0 w grey_word Bad (omega arith) (omega arith) tt)
+small wanted.Device w = known 2 1 w dmg_word _ (omega arith) (omega arith) (known 2 0 w cgb_word None (omega arith) (omega arith) tt)
+small wanted.Colour w = known 2 1 w colour_word _ (omega arith) (omega arith) (known 2 0 w grey_word None (omega arith) (omega arith) tt)
 small wanted.Address w = tested 65536 w _ _ λ e.
     let size : length w ≡ 4 = eqb-true (length w) 4 e in
     number_small 16 0 0 65536 w w (omega arith) (rw size (omega arith)) (omega arith)
@@ -87,8 +84,8 @@ small wanted.Times w = tested 4294967296 w (leb 1 (length w) && leb (length w) 1
     bounded 4294967296 1 4294967295 w _ (omega arith) (omega arith)
 small wanted.Kind w =
     known 3 0 w write_word _ (omega arith) (omega arith)
-    (known 3 1 w read_word _ (omega arith) (omega arith) (known 3 2 w read_write_word Bad (omega arith) (omega arith) tt))
-small wanted.Switch w = known 2 1 w on_word _ (omega arith) (omega arith) (known 2 0 w off_word Bad (omega arith) (omega arith) tt)
+    (known 3 1 w read_word _ (omega arith) (omega arith) (known 3 2 w read_write_word None (omega arith) (omega arith) tt))
+small wanted.Switch w = known 2 1 w on_word _ (omega arith) (omega arith) (known 2 0 w off_word None (omega arith) (omega arith) tt)
 
 one_small : (k : Wanted) → 1 < limit k
 one_small wanted.Device = omega arith
@@ -103,53 +100,37 @@ one_small wanted.Switch = omega arith
 
 -- THE NEXT ARGUMENT
 
-module _ (t : List ℕ) (from : ℕ) (k : Wanted) where
-  pub meant : (start stop value : ℕ) → IsWord t from start stop → meaning k (take (stop - start) (drop start t)) ≡ Is value → Went t from k value (stop - start) stop
+no_value : (o : Option ℕ) (bad r : Reason) → ok_or o bad ≡ Err r → (o ≡ None) × (bad ≡ r)
+no_value None bad r e = (refl, cc)
+no_value (Some v) bad r e = absurd (cc)
+
+module _ (k : Wanted) (w : List ℕ) (ws : List (List ℕ)) {o : Option ℕ} (is : o ≡ meaning k w) where
+  pub meant : (value : ℕ) → o ≡ Some value → Went (w ∷ ws) k value (length w) ws
   unfolding argumentOf onward
-  meant start stop value f e =
-      let w : List ℕ = take (stop - start) (drop start t) in
-      let size : length w ≡ stop - start = part_length t start stop f.order f.inside in
-      let fits : Small (limit k) w (Is value) = rw e at (small k w) in
+  meant value e =
+      let means : meaning k w ≡ Some value = sym is ∙ e in
+      let fits : Small (limit k) w (Some value) = rw means at (small k w) in
       record {
-        inside = f.inside;
         small = fits.0;
-        short = rw (sym size) fits.1;
-        goes = λ then. rw (f.split, e, size) refl;
+        short = fits.1;
+        goes = λ then. rw means refl;
       }
 
-  pub not_meant : (start stop : ℕ) (r : Reason) → IsWord t from start stop → meaning k (take (stop - start) (drop start t)) ≡ Bad → r ≡ wrong k
-      → (then : Then) → argumentOf k (words (drop from t)) then ≡ line.Error r
+  pub not_meant : {bad : Reason} (r : Reason) → bad ≡ wrong k → ok_or o bad ≡ Err r → (then : Then) → argumentOf k (w ∷ ws) then ≡ Err r
   unfolding argumentOf onward
-  not_meant start stop r f e q then = rw (f.split, e, q) refl
+  not_meant r b e then =
+      let refused = no_value o _ r e in
+      rw (sym is ∙ refused.0, sym b ∙ refused.1) refl
 
-  pub left_out : words (drop from t) ≡ [] → from ≤ length t → is_optional k ≡ true → Went t from k 1 0 from
-  unfolding argumentOf
-  left_out n h e =
-      record {
-        inside = h;
-        small = one_small k;
-        short = omega arith;
-        goes = λ then. rw (n, e) refl;
-      }
+pub left_out : (k : Wanted) → is_optional k ≡ true → Went [] k 1 0 []
+unfolding argumentOf
+left_out k e =
+    record {
+      small = one_small k;
+      short = omega arith;
+      goes = λ then. rw e refl;
+    }
 
-  pub missing : words (drop from t) ≡ [] → is_optional k ≡ false → (then : Then) → argumentOf k (words (drop from t)) then ≡ line.Error Missing
-  unfolding argumentOf
-  missing n e then = rw (n, e) refl
-
--- BEHIND THE LAST ARGUMENT, AND THE FIRST WORD
-
-pub whole_more : (call : Call) (ws : List (List ℕ)) (w : List ℕ) (rest : List (List ℕ)) → ws ≡ w ∷ rest → whole call ws ≡ line.Error Extra
-unfolding whole
-whole_more call ws w rest e = rw e refl
-
-pub whole_none : (call : Call) (ws : List (List ℕ)) → ws ≡ [] → whole call ws ≡ line.Call call
-unfolding whole
-whole_none call ws e = rw e refl
-
-pub said_call : (ws : List (List ℕ)) (w : List ℕ) (rest : List (List ℕ)) → ws ≡ w ∷ rest → said ws ≡ read_call w rest
-unfolding said
-said_call ws w rest e = rw e refl
-
-pub said_nothing : (ws : List (List ℕ)) → ws ≡ [] → said ws ≡ line.Nothing
-unfolding said
-said_nothing ws e = rw e refl
+pub missing : (k : Wanted) → is_optional k ≡ false → (then : Then) → argumentOf k [] then ≡ Err Missing
+unfolding argumentOf
+missing k e then = rw e refl

@@ -14,13 +14,12 @@ use Rattle.texts.proofs.Numbers.{digits_length, places_most, decimal_most}
 use Rattle.logic.proofs.Both.{both, first, second, split}
 use Rattle.logic.proofs.Every.{every_append}
 use Rattle.logic.proofs.Tests.{by_test, clash}
-use Rattle.captures.specs.declared.Number.TheVariants.{Is}
+use Rattle.std.specs.Prelude.{Some, Ok}
 use Rattle.captures.specs.declared.Wanted.{Wanted}
 use Rattle.captures.specs.declared.Wanted.TheVariants as wanted
 use Rattle.captures.specs.declared.Bytes.{Bytes}
 use Rattle.captures.specs.declared.Call.{Call}
 use Rattle.captures.specs.declared.Call.TheVariants.{Start, Write, Vram, Oam, Step, Corrupt, Colour}
-use Rattle.captures.specs.declared.Line.TheVariants as line
 use Rattle.captures.specs.Words.{is_hash, is_blank, text, closed, words_from, words, is_same}
 use Rattle.captures.specs.Names.{write_word, colour_word}
 use Rattle.captures.specs.Names.{dmg_word, cgb_word, grey_word, on_word, off_word, read_word, read_write_word}
@@ -29,7 +28,7 @@ use Rattle.captures.specs.Reading.{either, kind_of, hexadecimal, bytes_of, withi
 use Rattle.captures.specs.Reading.{read_start, read_write, read_bytes, read_step, read_corrupt, read_colour, read_call, said, reading}
 use Rattle.captures.specs.Printing.{spaced, kind_word, bytes_words, name_of, arguments_of, printed}
 use Rattle.captures.specs.Laws.{is_times, are_bytes, is_writable, PrintedIsRead, CommentsSayNothing, BlanksSayNothing, PrintedFits, BufferIs}
-use Rattle.captures.proofs.Words.{closes}
+use Rattle.captures.proofs.Texts.{closes}
 
 -- COMMENTS AND BLANKS
 
@@ -171,11 +170,11 @@ digits_read base (suc k) n m l p h s =
     total : (m * base ^ k + n / base) * base + n % base ≡ m * base ^ suc k + n
     total = rw (pow-suc base k) (omega (arith, div-add-mod' n base, add-mul (m * base ^ k) (n / base) base, mul_assoc m (base ^ k) base))
 
-number_read : (base k n : ℕ) → 0 < base → base ≤ 16 → n < base ^ k → number_from base 0 (digits base k n) ≡ Is n
+number_read : (base k n : ℕ) → 0 < base → base ≤ 16 → n < base ^ k → number_from base 0 (digits base k n) ≡ Some n
 unfolding number_from
 number_read base k n p h s =
     let zeroed : 0 * base ^ k + n ≡ n = omega arith in
-    sym (ap (number_from base 0) (append-nil (digits base k n))) ∙ digits_read base k n 0 [] p h s ∙ ap Is zeroed
+    sym (ap (number_from base 0) (append-nil (digits base k n))) ∙ digits_read base k n 0 [] p h s ∙ ap Some zeroed
 
 -- a number's decimal places hold it
 places_hold : (more n : ℕ) → n < 10 ^ suc more → n < 10 ^ places more n
@@ -198,11 +197,11 @@ places_some (suc more) n = by_test (λ (k : ℕ). 0 < k) (ltb n 10) (λ _. omega
 
 -- WHAT THE ARGUMENTS' WORDS MEAN
 
-address_read : (n : ℕ) → n < 65536 → meaning wanted.Address (digits 16 4 n) ≡ Is n
+address_read : (n : ℕ) → n < 65536 → meaning wanted.Address (digits 16 4 n) ≡ Some n
 unfolding meaning hexadecimal
 address_read n h = rw (eq-eqb _ _ (digits_length 16 4 n)) (number_read 16 4 n (omega arith) (omega arith) h)
 
-value_read : (n : ℕ) → n < 256 → meaning wanted.Value (digits 16 2 n) ≡ Is n
+value_read : (n : ℕ) → n < 256 → meaning wanted.Value (digits 16 2 n) ≡ Some n
 unfolding meaning hexadecimal
 value_read n h = rw (eq-eqb _ _ (digits_length 16 2 n)) (number_read 16 2 n (omega arith) (omega arith) h)
 
@@ -213,7 +212,7 @@ bytes_digits (suc count) =
     let two : 2 * suc count ≡ suc (suc (2 * count)) = omega arith in
     rw (two, pow-suc 256 count, pow-suc 16 (suc (2 * count)), pow-suc 16 (2 * count), bytes_digits count) (omega arith)
 
-bytes_read : (count n : ℕ) → 1 ≤ count → count ≤ 8 → n < 256 ^ count → meaning wanted.Bytes (digits 16 (2 * count) n) ≡ Is n
+bytes_read : (count n : ℕ) → 1 ≤ count → count ≤ 8 → n < 256 ^ count → meaning wanted.Bytes (digits 16 (2 * count) n) ≡ Some n
 unfolding meaning bytes_of
 bytes_read count n low high h =
     let size : length (digits 16 (2 * count) n) ≡ 2 * count = digits_length 16 (2 * count) n in
@@ -221,7 +220,7 @@ bytes_read count n low high h =
     rw (size, eq-eqb _ _ even, le-leb 2 (2 * count) (omega arith), le-leb (2 * count) 16 (omega arith))
     (number_read 16 (2 * count) n (omega arith) (omega arith) (rw (bytes_digits count) at h))
 
-decimal_read : (low high n : ℕ) → low ≤ n → n ≤ high → n < 10000000000 → decimal low high (decimalOf n) ≡ Is n
+decimal_read : (low high n : ℕ) → low ≤ n → n ≤ high → n < 10000000000 → decimal low high (decimalOf n) ≡ Some n
 unfolding decimal decimalOf within
 decimal_read low high n l h s =
     let k = places 9 n in
@@ -234,7 +233,7 @@ unfolding decimalOf
 decimal_word n = digits_word 10 (places 9 n) n (places_some 9 n)
 
 -- an argument whose word means a number
-taken : (k : Wanted) (w : List ℕ) (ws : List (List ℕ)) (n : ℕ) (then : Then) → meaning k w ≡ Is n → argument k (w ∷ ws) then ≡ then n (length w) ws
+taken : (k : Wanted) (w : List ℕ) (ws : List (List ℕ)) (n : ℕ) (then : Then) → meaning k w ≡ Some n → argument k (w ∷ ws) then ≡ then n (length w) ws
 unfolding argument onward
 taken k w ws n then e = rw e refl
 
@@ -275,7 +274,7 @@ module _ (b : Bytes) (e : are_bytes b ≡ true) where
       both (digits_word 16 4 b.address (omega arith))
       (both (digits_word 16 (2 * min b.count 8) b.bytes (rw bytes_count (omega (arith, bytes_facts.1)))) (both (decimal_word b.times) refl))
 
-  bytes_said : (oam : Bool) → read_bytes oam (bytes_words b) ≡ line.Call (cond oam Oam Vram b)
+  bytes_said : (oam : Bool) → read_bytes oam (bytes_words b) ≡ Ok (Some (cond oam Oam Vram b))
   unfolding read_bytes bytes_words whole meaning
   bytes_said oam =
       let size : length (digits 16 (2 * b.count) b.bytes) / 2 ≡ b.count = rw (digits_length 16 (2 * b.count) b.bytes) (omega arith) in

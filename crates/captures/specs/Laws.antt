@@ -1,10 +1,9 @@
 -- What is true of the reading and of the printing; proved in proofs/Laws.
-use Rattle.std.specs.Prelude.{◌≡◌, Bool, true, ◌&&◌, List, ◌∷◌, ◌++◌, ℕ, ◌^◌, ◌≤◌, ltb, leb, length, take, drop}
+use Rattle.std.specs.Prelude.{◌≡◌, Bool, true, ◌&&◌, List, ◌∷◌, ◌++◌, ℕ, ◌^◌, ◌≤◌, ltb, leb, length, take, drop, Some, Ok}
 use Rattle.logic.specs.Every.{every}
 use Rattle.captures.specs.declared.Bytes.{Bytes}
 use Rattle.captures.specs.declared.Call.{Call}
 use Rattle.captures.specs.declared.Call.TheVariants.{Start, Write, Vram, Oam, Step, Corrupt, Colour}
-use Rattle.captures.specs.declared.Line.TheVariants as line
 use Rattle.captures.specs.Words.{is_blank}
 use Rattle.captures.specs.Reading.{reading}
 use Rattle.captures.specs.Printing.{printed}
@@ -29,7 +28,7 @@ is_writable (Colour on) = true
 
 -- a call's text says the call
 abbrev pub PrintedIsRead : Type 0
-PrintedIsRead = (call : Call) → is_writable call ≡ true → reading (printed call) ≡ line.Call call
+PrintedIsRead = (call : Call) → is_writable call ≡ true → reading (printed call) ≡ Ok (Some call)
 
 -- a comment says nothing, whatever its bytes
 abbrev pub CommentsSayNothing : Type 0
@@ -43,6 +42,6 @@ BlanksSayNothing = (l blanks : List ℕ) → every is_blank blanks ≡ true → 
 abbrev pub PrintedFits : Type 0
 PrintedFits = (call : Call) → length (printed call) ≤ 37
 
--- in such a buffer the text stands at the start, and the rest is as it was: what `print_call` promises is the whole buffer
+-- where such a buffer has the text at its start, and behind it what it had before, the two are the whole of it
 abbrev pub BufferIs : Type 0
 BufferIs = (call : Call) (before after : List ℕ) (r : ℕ) → take r after ≡ printed call → drop r after ≡ drop r before → after ≡ printed call ++ drop r before

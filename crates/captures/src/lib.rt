@@ -2,24 +2,28 @@
 // (specs/Reading); a call's text is `printed` (specs/Printing). No line and no call is refused.
 #![tactic(auto)]
 
-ghost use Rattle.std.specs.Prelude.{◌≡◌, false, cond, ◌∷◌, ◌+◌, ◌≤◌, ◌<◌, min, length, get_or, take, drop};
-ghost use Rattle.texts.specs.Appended.{Appended, IsPrefixLen};
+ghost use Rattle.std.specs.Prelude.{◌≡◌, cond, ◌∷◌, ◌++◌, ◌+◌, ◌≤◌, max, length};
+ghost use Rattle.std.specs.Prelude.{not, List, ℕ, position};
+ghost use Rattle.std.specs.Iterator.{YieldsFirstRef, item_count};
 ghost use Rattle.texts.specs.Numbers.{digits, decimal as decimalText};
-ghost use Rattle.captures.specs.Words.{is_blank, words, is_same};
-ghost use Rattle.captures.specs.Numbers.{digit_of, number_from};
+ghost use Rattle.captures.specs.Words.{is_hash, is_blank, text, words};
+ghost use Rattle.captures.specs.Numbers.{digit_in, number_from};
 ghost use Rattle.captures.specs.Reading.{hexadecimal as hexadecimalOf, decimal as decimalOf};
 ghost use Rattle.captures.specs.Reading.{either as either_of, kind_of, bytes_of, meaning};
 ghost use Rattle.captures.specs.Reading.{read_start, read_write, read_bytes, read_step, read_corrupt, read_colour};
 ghost use Rattle.captures.specs.Reading.{is_optional, wrong as wrongOf, whole as whole_of};
 ghost use Rattle.captures.specs.Reading.{read_call, said, reading};
-ghost use Rattle.captures.specs.Printing.{spaced, kind_word, bytes_words, printed};
-ghost use Rattle.captures.specs.Parts.{TextEnds, Unblank, IsWord, Found, Took};
+ghost use Rattle.captures.specs.Printing.{spaced, kind_word, bytes_words, name_of, arguments_of, printed};
+ghost use Rattle.captures.specs.Parts.{Took};
+
+use std::marker::Model;
+use texts::Text;
 
 // What begins a comment.
 const COMMENT: u8 = b'#';
 
 // Bytes for VRAM or OAM: `count` of them (1 to 8), the first the highest of `bytes`, `times` over from `address` on.
-#[derive(Clone, Copy)]
+#[derive(Clone, Copy, Debug, PartialEq, Eq)]
 pub struct Bytes {
     pub address: u16,
     pub bytes: u64,
@@ -27,8 +31,8 @@ pub struct Bytes {
     pub times: u32,
 }
 
-// A call of the unit.
-#[derive(Clone, Copy)]
+// A call of the unit. A kind of corruption is a number, since `print_call` takes any: one over 2 it prints as 2.
+#[derive(Clone, Copy, Debug, PartialEq, Eq)]
 pub enum Call {
     Start { dmg: bool, cgb: bool },
     Write { address: u16, value: u8 },
@@ -40,7 +44,7 @@ pub enum Call {
 }
 
 // What is wrong with a line: the first from the left.
-#[derive(Clone, Copy)]
+#[derive(Clone, Copy, Debug, PartialEq, Eq)]
 pub enum Reason {
     Unknown,
     Missing,
@@ -54,14 +58,6 @@ pub enum Reason {
     BadKind,
     BadSwitch,
     Extra,
-}
-
-// What a line says.
-#[derive(Clone, Copy)]
-pub enum Line {
-    Nothing,
-    Call(Call),
-    Error(Reason),
 }
 
 // The arguments that a call may want.
@@ -78,294 +74,196 @@ enum Wanted {
     Switch,
 }
 
-// The number that a word means, if any.
+// An argument: its number, and how many bytes its word has.
 #[derive(Clone, Copy)]
-enum Number {
-    Is(u64),
-    Bad,
+struct Argument {
+    value: u64,
+    size: usize,
 }
 
-// The next word of a text: where it starts and where it stops, if there is one.
-#[derive(Clone, Copy)]
-enum Next {
-    Word { start: usize, stop: usize },
-    End,
+// The words that are left of a text.
+#[derive(Drop)]
+struct Words<'a> {
+    text: &'a [u8],
 }
 
-// An argument: its number, how many bytes its word has and the place behind it; or what is wrong.
-#[derive(Clone, Copy)]
-enum Argument {
-    Read {
-        value: u64,
-        size: usize,
-        rest: usize,
-    },
-    Wrong(Reason),
+impl<'a> Model for Words<'a> {
+    ghost Value = { List (List ℕ) };
+
+    ghost view = { λ w. words w.text.now };
 }
 
-// What a line says. The line has no line feed; any bytes will do.
-pub fn read_line(line: &[u8]) -> Line
+// What a line says: a call, or nothing. The line has no line feed; any bytes will do.
+pub fn read_line(line: &[u8]) -> Result<Option<Call>, Reason>
     ensures { result ≡ reading line.now }
 {
-    let end = text_end(line);
-    read_text(&line[..end])
+    let words = Words {
+        text: text_of(line),
+    };
+    read_words(words)
 }
 
 // The text before a comment.
-fn text_end(line: &[u8]) -> usize
-    ensures { TextEnds line.now result }
+fn text_of(line: &[u8]) -> &[u8]
+    ensures { result.now ≡ text line.now }
 {
-    let mut i = 0;
-    while i < line.len() {
-        if line[i] == COMMENT {
-            return i;
-        }
-        i += 1;
-    }
-    i
+    let end = comment_start(line).unwrap_or(line.len());
+    &line[..end]
+}
+
+// The place of a line's comment.
+fn comment_start(line: &[u8]) -> Option<usize>
+    ensures { result ≡ position is_hash line.now }
+{
+    line.iter().position(|b| *b == COMMENT)
 }
 
 // The first word names the call.
-fn read_text(text: &[u8]) -> Line
-    ensures { result ≡ said (words text.now) }
+fn read_words(mut words: Words) -> Result<Option<Call>, Reason>
+    ensures { result ≡ said words.entry }
 {
-    match next_word(text, 0) {
-        Next::Word { start, stop } => read_call(text, &text[start..stop], stop),
-        Next::End => Line::Nothing,
+    match words.next() {
+        Some(name) => read_call(name, words),
+        None => Ok(None),
     }
 }
 
-fn read_call(text: &[u8], name: &[u8], at: usize) -> Line
-    requires { at ≤ length text.now }
-    ensures { result ≡ read_call name.now (words (drop at text.now)) }
+// By `==`, since a match on seven texts gives the proof a case for each of their bytes.
+fn read_call(name: &[u8], words: Words) -> Result<Option<Call>, Reason>
+    ensures { result ≡ read_call name.now words.entry }
 {
-    if same(name, b"start") {
-        return read_start(text, at);
-    }
-    if same(name, b"write") {
-        return read_write(text, at);
-    }
-    if same(name, b"vram") {
-        return read_bytes(text, at, false);
-    }
-    if same(name, b"oam") {
-        return read_bytes(text, at, true);
-    }
-    if same(name, b"step") {
-        return read_step(text, at);
-    }
-    if same(name, b"corrupt") {
-        return read_corrupt(text, at);
-    }
-    if same(name, b"colour") {
-        return read_colour(text, at);
-    }
-    Line::Error(Reason::Unknown)
-}
-
-fn read_start(text: &[u8], at: usize) -> Line
-    requires { at ≤ length text.now }
-    ensures { result ≡ read_start (words (drop at text.now)) }
-{
-    match next_argument(text, at, Wanted::Device) {
-        Argument::Wrong(reason) => Line::Error(reason),
-        Argument::Read {
-            value: device,
-            size: _,
-            rest,
-        } => {
-            match next_argument(text, rest, Wanted::Colour) {
-                Argument::Wrong(reason) => Line::Error(reason),
-                Argument::Read {
-                    value: colour,
-                    size: _,
-                    rest,
-                } => {
-                    let call = Call::Start {
-                        dmg: device == 1,
-                        cgb: colour == 1,
-                    };
-                    whole(text, rest, call)
-                }
-            }
-        }
+    if name == b"start".as_slice() {
+        read_start(words)
+    } else if name == b"write".as_slice() {
+        read_write(words)
+    } else if name == b"vram".as_slice() {
+        read_bytes(words, false)
+    } else if name == b"oam".as_slice() {
+        read_bytes(words, true)
+    } else if name == b"step".as_slice() {
+        read_step(words)
+    } else if name == b"corrupt".as_slice() {
+        read_corrupt(words)
+    } else if name == b"colour".as_slice() {
+        read_colour(words)
+    } else {
+        Err(Reason::Unknown)
     }
 }
 
-fn read_write(text: &[u8], at: usize) -> Line
-    requires { at ≤ length text.now }
-    ensures { result ≡ read_write (words (drop at text.now)) }
+fn read_start(mut words: Words) -> Result<Option<Call>, Reason>
+    ensures { result ≡ read_start words.entry }
 {
-    match next_argument(text, at, Wanted::Address) {
-        Argument::Wrong(reason) => Line::Error(reason),
-        Argument::Read {
-            value: address,
-            size: _,
-            rest,
-        } => {
-            match next_argument(text, rest, Wanted::Value) {
-                Argument::Wrong(reason) => Line::Error(reason),
-                Argument::Read {
+    let device = words.argument(Wanted::Device)?;
+    let colour = words.argument(Wanted::Colour)?;
+    words.whole(Call::Start {
+        dmg: device.value == 1,
+        cgb: colour.value == 1,
+    })
+}
+
+fn read_write(mut words: Words) -> Result<Option<Call>, Reason>
+    ensures { result ≡ read_write words.entry }
+{
+    let address = words.argument(Wanted::Address)?;
+    let value = words.argument(Wanted::Value)?;
+    words.whole(Call::Write {
+        address: address.value as u16,
+        value: value.value as u8,
+    })
+}
+
+// Bytes for VRAM, or for OAM: two digits make a byte.
+fn read_bytes(mut words: Words, oam: bool) -> Result<Option<Call>, Reason>
+    ensures { result ≡ read_bytes oam words.entry }
+{
+    let address = words.argument(Wanted::Address)?;
+    let bytes = words.argument(Wanted::Bytes)?;
+    let times = words.argument(Wanted::Times)?;
+    let bytes = Bytes {
+        address: address.value as u16,
+        bytes: bytes.value,
+        count: (bytes.size / 2) as u8,
+        times: times.value as u32,
+    };
+    let call = if oam {
+        Call::Oam(bytes)
+    } else {
+        Call::Vram(bytes)
+    };
+    words.whole(call)
+}
+
+fn read_step(mut words: Words) -> Result<Option<Call>, Reason>
+    ensures { result ≡ read_step words.entry }
+{
+    let cycles = words.argument(Wanted::Cycles)?;
+    let times = words.argument(Wanted::Times)?;
+    words.whole(Call::Step {
+        cycles: cycles.value as u8,
+        times: times.value as u32,
+    })
+}
+
+fn read_corrupt(mut words: Words) -> Result<Option<Call>, Reason>
+    ensures { result ≡ read_corrupt words.entry }
+{
+    let kind = words.argument(Wanted::Kind)?;
+    words.whole(Call::Corrupt {
+        kind: kind.value as u8,
+    })
+}
+
+fn read_colour(mut words: Words) -> Result<Option<Call>, Reason>
+    ensures { result ≡ read_colour words.entry }
+{
+    let switch = words.argument(Wanted::Switch)?;
+    words.whole(Call::Colour {
+        on: switch.value == 1,
+    })
+}
+
+impl<'a> Iterator for Words<'a> {
+    type Item = &'a [u8];
+
+    ghost next_gives = { YieldsFirstRef (λ ws. ws) };
+
+    ghost remaining = { item_count (λ ws. ws) };
+
+    fn next(&mut self) -> Option<&'a [u8]> {
+        let (_, text) = self.text.split_at(word_start(self.text)?);
+        let end = blank_start(text).unwrap_or(text.len());
+        let (word, rest) = text.split_at(end);
+        self.text = rest;
+        Some(word)
+    }
+}
+
+impl<'a> Words<'a> {
+    // Takes the next argument. TIMES may be left out, and is 1 then.
+    fn argument(&mut self, wanted: Wanted) -> Result<Argument, Reason>
+        ensures { Took self.old wanted result self.new }
+    {
+        match self.next() {
+            Some(word) => {
+                let value = meant(word, wanted).ok_or(wrong(wanted))?;
+                Ok(Argument {
                     value,
-                    size: _,
-                    rest,
-                } => {
-                    let call = Call::Write {
-                        address: address as u16,
-                        value: value as u8,
-                    };
-                    whole(text, rest, call)
-                }
+                    size: word.len(),
+                })
             }
+            None if is_optional(wanted) => Ok(Argument { value: 1, size: 0 }),
+            None => Err(Reason::Missing),
         }
     }
-}
 
-// Bytes for VRAM, or for OAM.
-fn read_bytes(text: &[u8], at: usize, oam: bool) -> Line
-    requires { at ≤ length text.now }
-    ensures { result ≡ read_bytes oam (words (drop at text.now)) }
-{
-    match next_argument(text, at, Wanted::Address) {
-        Argument::Wrong(reason) => Line::Error(reason),
-        Argument::Read {
-            value: address,
-            size: _,
-            rest,
-        } => {
-            match next_argument(text, rest, Wanted::Bytes) {
-                Argument::Wrong(reason) => Line::Error(reason),
-                Argument::Read {
-                    value: bytes,
-                    size,
-                    rest,
-                } => {
-                    match next_argument(text, rest, Wanted::Times) {
-                        Argument::Wrong(reason) => Line::Error(reason),
-                        Argument::Read {
-                            value: times,
-                            size: _,
-                            rest,
-                        } => {
-                            let bytes = Bytes {
-                                address: address as u16,
-                                bytes,
-                                count: (size / 2) as u8,
-                                times: times as u32,
-                            };
-                            if oam {
-                                whole(text, rest, Call::Oam(bytes))
-                            } else {
-                                whole(text, rest, Call::Vram(bytes))
-                            }
-                        }
-                    }
-                }
-            }
-        }
-    }
-}
-
-fn read_step(text: &[u8], at: usize) -> Line
-    requires { at ≤ length text.now }
-    ensures { result ≡ read_step (words (drop at text.now)) }
-{
-    match next_argument(text, at, Wanted::Cycles) {
-        Argument::Wrong(reason) => Line::Error(reason),
-        Argument::Read {
-            value: cycles,
-            size: _,
-            rest,
-        } => {
-            match next_argument(text, rest, Wanted::Times) {
-                Argument::Wrong(reason) => Line::Error(reason),
-                Argument::Read {
-                    value: times,
-                    size: _,
-                    rest,
-                } => {
-                    let call = Call::Step {
-                        cycles: cycles as u8,
-                        times: times as u32,
-                    };
-                    whole(text, rest, call)
-                }
-            }
-        }
-    }
-}
-
-fn read_corrupt(text: &[u8], at: usize) -> Line
-    requires { at ≤ length text.now }
-    ensures { result ≡ read_corrupt (words (drop at text.now)) }
-{
-    match next_argument(text, at, Wanted::Kind) {
-        Argument::Wrong(reason) => Line::Error(reason),
-        Argument::Read {
-            value: kind,
-            size: _,
-            rest,
-        } => {
-            let call = Call::Corrupt { kind: kind as u8 };
-            whole(text, rest, call)
-        }
-    }
-}
-
-fn read_colour(text: &[u8], at: usize) -> Line
-    requires { at ≤ length text.now }
-    ensures { result ≡ read_colour (words (drop at text.now)) }
-{
-    match next_argument(text, at, Wanted::Switch) {
-        Argument::Wrong(reason) => Line::Error(reason),
-        Argument::Read {
-            value: switch,
-            size: _,
-            rest,
-        } => {
-            let call = Call::Colour { on: switch == 1 };
-            whole(text, rest, call)
-        }
-    }
-}
-
-// A call is whole where the words end behind its last argument.
-fn whole(text: &[u8], at: usize, call: Call) -> Line
-    requires { at ≤ length text.now }
-    ensures { result ≡ whole_of call (words (drop at text.now)) }
-{
-    match next_word(text, at) {
-        Next::Word { start: _, stop: _ } => Line::Error(Reason::Extra),
-        Next::End => Line::Call(call),
-    }
-}
-
-// The next argument. TIMES may be left out, and is 1 then.
-fn next_argument(text: &[u8], at: usize, wanted: Wanted) -> Argument
-    requires { at ≤ length text.now }
-    ensures { Took text.now at wanted result }
-{
-    match next_word(text, at) {
-        Next::Word { start, stop } => {
-            match meant(&text[start..stop], wanted) {
-                Number::Is(value) => Argument::Read {
-                    value,
-                    size: stop - start,
-                    rest: stop,
-                },
-                Number::Bad => Argument::Wrong(wrong(wanted)),
-            }
-        }
-        Next::End => {
-            if is_optional(wanted) {
-                Argument::Read {
-                    value: 1,
-                    size: 0,
-                    rest: at,
-                }
-            } else {
-                Argument::Wrong(Reason::Missing)
-            }
+    // A call is whole where the words end behind its last argument.
+    fn whole(mut self, call: Call) -> Result<Option<Call>, Reason>
+        ensures { result ≡ whole_of call self.entry }
+    {
+        match self.next() {
+            Some(_) => Err(Reason::Extra),
+            None => Ok(Some(call)),
         }
     }
 }
@@ -374,17 +272,7 @@ fn next_argument(text: &[u8], at: usize, wanted: Wanted) -> Argument
 fn is_optional(wanted: Wanted) -> bool
     ensures { result ≡ is_optional wanted }
 {
-    match wanted {
-        Wanted::Device => false,
-        Wanted::Colour => false,
-        Wanted::Address => false,
-        Wanted::Value => false,
-        Wanted::Bytes => false,
-        Wanted::Cycles => false,
-        Wanted::Times => true,
-        Wanted::Kind => false,
-        Wanted::Switch => false,
-    }
+    matches!(wanted, Wanted::Times)
 }
 
 // What is wrong with a word that means nothing where an argument is wanted.
@@ -405,7 +293,7 @@ fn wrong(wanted: Wanted) -> Reason
 }
 
 // What a word means where an argument is wanted.
-fn meant(word: &[u8], wanted: Wanted) -> Number
+fn meant(word: &[u8], wanted: Wanted) -> Option<u64>
     ensures { result ≡ meaning wanted word.now }
 {
     match wanted {
@@ -422,306 +310,224 @@ fn meant(word: &[u8], wanted: Wanted) -> Number
 }
 
 // One of two words: the first means 1, the other 0.
-fn either(word: &[u8], one: &[u8], other: &[u8]) -> Number
+fn either(word: &[u8], one: &[u8], other: &[u8]) -> Option<u64>
     ensures { result ≡ either_of one.now other.now word.now }
 {
-    if same(word, one) {
-        return Number::Is(1);
+    if word == one {
+        Some(1)
+    } else if word == other {
+        Some(0)
+    } else {
+        None
     }
-    if same(word, other) {
-        return Number::Is(0);
-    }
-    Number::Bad
 }
 
-fn kind(word: &[u8]) -> Number
+fn kind(word: &[u8]) -> Option<u64>
     ensures { result ≡ kind_of word.now }
 {
-    if same(word, b"write") {
-        return Number::Is(0);
+    if word == b"write".as_slice() {
+        Some(0)
+    } else if word == b"read".as_slice() {
+        Some(1)
+    } else if word == b"read-write".as_slice() {
+        Some(2)
+    } else {
+        None
     }
-    if same(word, b"read") {
-        return Number::Is(1);
-    }
-    if same(word, b"read-write") {
-        return Number::Is(2);
-    }
-    Number::Bad
 }
 
 // So many hexadecimal digits.
-fn hexadecimal(word: &[u8], size: usize) -> Number
+fn hexadecimal(word: &[u8], size: usize) -> Option<u64>
     requires { size ≤ 16 }
     ensures { result ≡ hexadecimalOf size word.now }
 {
-    if word.len() != size {
-        return Number::Bad;
+    if word.len() == size {
+        number_of(word, 16)
+    } else {
+        None
     }
-    number_of(word, 16)
 }
 
 // One to eight bytes, each of two hexadecimal digits.
-fn bytes_of(word: &[u8]) -> Number
+#[tactic(auto, using(crate::proofs::Numbers::bytes_sized, crate::proofs::Numbers::no_bytes))]
+fn bytes_of(word: &[u8]) -> Option<u64>
     ensures { result ≡ bytes_of word.now }
 {
-    if word.len() % 2 != 0 {
-        return Number::Bad;
+    match word.len() {
+        2..=16 if word.len() % 2 == 0 => number_of(word, 16),
+        _ => None,
     }
-    if word.len() < 2 {
-        return Number::Bad;
-    }
-    if word.len() > 16 {
-        return Number::Bad;
-    }
-    number_of(word, 16)
 }
 
 // One to ten decimal digits that say a number from low to high.
-fn decimal(word: &[u8], low: u64, high: u64) -> Number
+#[tactic(auto, using(crate::proofs::Numbers::no_decimal))]
+fn decimal(word: &[u8], low: u64, high: u64) -> Option<u64>
     ensures { result ≡ decimalOf low high word.now }
 {
-    if word.len() < 1 {
-        return Number::Bad;
-    }
-    if word.len() > 10 {
-        return Number::Bad;
-    }
-    match number_of(word, 10) {
-        Number::Is(n) => {
-            if n < low {
-                return Number::Bad;
-            }
-            if n > high {
-                return Number::Bad;
-            }
-            Number::Is(n)
-        }
-        Number::Bad => Number::Bad,
+    match word.len() {
+        1..=10 => number_of(word, 10).filter(|n| (low..=high).contains(n)),
+        _ => None,
     }
 }
 
 // The number that a word's digits say: sixteen of them fit a u64.
-fn number_of(word: &[u8], base: u64) -> Number
+fn number_of(word: &[u8], base: u64) -> Option<u64>
     requires { (base ≤ 16) × (length word.now ≤ 16) }
     ensures { result ≡ number_from base 0 word.now }
 {
-    let mut n: u64 = 0;
-    let mut i = 0;
-    while i < word.len() {
-        let d = digit(word[i]);
+    let mut n = 0;
+    for b in word {
+        let d = u64::from(digit(*b)?);
         if d >= base {
-            return Number::Bad;
+            return None;
         }
         n = n * base + d;
-        i += 1;
     }
-    Number::Is(n)
+    Some(n)
 }
 
-// What a digit is worth; 16 for a byte that is none.
-fn digit(b: u8) -> u64
-    ensures { result ≡ digit_of b }
+// What a hexadecimal digit is worth.
+#[tactic(auto, using(crate::proofs::Numbers::digit_given))]
+fn digit(b: u8) -> Option<u32>
+    ensures { result ≡ digit_in 16 b }
 {
-    if b < b'0' {
-        return 16;
-    }
-    if b <= b'9' {
-        return (b - b'0') as u64;
-    }
-    if b < b'A' {
-        return 16;
-    }
-    if b <= b'F' {
-        return (b - b'A' + 10) as u64;
-    }
-    if b < b'a' {
-        return 16;
-    }
-    if b <= b'f' {
-        return (b - b'a' + 10) as u64;
-    }
-    16
+    char::from(b).to_digit(16)
 }
 
-// The next word from a place on.
-fn next_word(text: &[u8], at: usize) -> Next
-    requires { at ≤ length text.now }
-    ensures { Found text.now at result }
+// The place of the first byte of a word.
+fn word_start(text: &[u8]) -> Option<usize>
+    ensures { result ≡ position (λ b. not (is_blank b)) text.now }
 {
-    let start = word_start(text, at);
-    if start < text.len() {
-        let stop = word_stop(text, start);
-        Next::Word { start, stop }
-    } else {
-        Next::End
-    }
+    text.iter().position(|b| !is_blank(*b))
 }
 
-// The place behind the blanks from a place on.
-fn word_start(text: &[u8], at: usize) -> usize
-    requires { at ≤ length text.now }
-    ensures { Unblank text.now at result }
+// The place of the first blank.
+fn blank_start(text: &[u8]) -> Option<usize>
+    ensures { result ≡ position is_blank text.now }
 {
-    let mut start = at;
-    while start < text.len() {
-        if !is_blank(text[start]) {
-            return start;
-        }
-        start += 1;
-    }
-    start
+    text.iter().position(|b| is_blank(*b))
 }
 
-// The place behind the word that starts at a place.
-fn word_stop(text: &[u8], at: usize) -> usize
-    requires { (at < length text.now) × (is_blank (get_or text.now at 0) ≡ false) }
-    ensures { IsWord text.now at at result }
-{
-    let mut stop = at + 1;
-    while stop < text.len() {
-        if is_blank(text[stop]) {
-            return stop;
-        }
-        stop += 1;
-    }
-    stop
-}
-
+#[tactic(auto, using(crate::proofs::Texts::blank, crate::proofs::Texts::no_blank))]
 fn is_blank(b: u8) -> bool
     ensures { result ≡ is_blank b }
 {
-    if b == b' ' {
-        return true;
-    }
-    if b == b'\t' {
-        return true;
-    }
-    b == b'\r'
+    matches!(b, b' ' | b'\t' | b'\r')
 }
 
-// Whether two words are the same.
-fn same(a: &[u8], b: &[u8]) -> bool
-    ensures { result ≡ is_same a.now b.now }
+// A call's text.
+pub fn print_call(call: Call) -> Text<40>
+    ensures { result ≡ printed call }
 {
-    if a.len() != b.len() {
-        return false;
-    }
-    let mut i = 0;
-    while i < a.len() {
-        if a[i] != b[i] {
-            return false;
-        }
-        i += 1;
-    }
-    true
+    let mut out = Text::new();
+    out.put(name_of(call));
+    put_arguments(&mut out, call);
+    out
 }
 
-// Puts a call's text at the start of `out`, and answers how long it is; what stands behind it stays.
-pub fn print_call(call: Call, out: &mut [u8; 40]) -> usize
-    ensures prefix_len { IsPrefixLen result out.new }
-    ensures out_after { take result out.new ≡ printed call }
-    ensures out_unchanged { drop result out.new ≡ drop result out.old }
+// A call's name.
+fn name_of(call: Call) -> &'static [u8]
+    ensures name { result.now ≡ name_of call }
+    ensures most { length result.now ≤ 7 }
+{
+    match call {
+        Call::Start { .. } => b"start",
+        Call::Write { .. } => b"write",
+        Call::Vram(_) => b"vram",
+        Call::Oam(_) => b"oam",
+        Call::Step { .. } => b"step",
+        Call::Corrupt { .. } => b"corrupt",
+        Call::Colour { .. } => b"colour",
+    }
+}
+
+// Puts a call's arguments behind its name.
+fn put_arguments(out: &mut Text<40>, call: Call)
+    requires { length out.old ≤ 7 }
+    ensures { out.new ≡ out.old ++ spaced (arguments_of call) }
 {
     match call {
         Call::Start { dmg, cgb } => {
-            let at = texts::put_bytes(out, 0, b"start");
-            let at = put_either(out, at, dmg, b"dmg", b"cgb");
-            put_either(out, at, cgb, b"colour", b"grey")
+            put_either(out, dmg, b"dmg", b"cgb");
+            put_either(out, cgb, b"colour", b"grey");
         }
         Call::Write { address, value } => {
-            let at = texts::put_bytes(out, 0, b"write");
-            let at = put_hexadecimal(out, at, address as u64, 4);
-            put_hexadecimal(out, at, value as u64, 2)
+            put_hexadecimal(out, address as u64, 4);
+            put_hexadecimal(out, value as u64, 2);
         }
-        Call::Vram(bytes) => {
-            let at = texts::put_bytes(out, 0, b"vram");
-            put_arguments(out, at, bytes)
-        }
-        Call::Oam(bytes) => {
-            let at = texts::put_bytes(out, 0, b"oam");
-            put_arguments(out, at, bytes)
-        }
+        Call::Vram(bytes) => put_bytes(out, bytes),
+        Call::Oam(bytes) => put_bytes(out, bytes),
         Call::Step { cycles, times } => {
-            let at = texts::put_bytes(out, 0, b"step");
-            let at = put_decimal(out, at, cycles as u32);
-            put_decimal(out, at, times)
+            put_decimal(out, cycles as u32);
+            put_decimal(out, times);
         }
-        Call::Corrupt { kind } => {
-            let at = texts::put_bytes(out, 0, b"corrupt");
-            put_kind(out, at, kind)
-        }
-        Call::Colour { on } => {
-            let at = texts::put_bytes(out, 0, b"colour");
-            put_either(out, at, on, b"on", b"off")
-        }
+        Call::Corrupt { kind } => put_word(out, kind_word(kind)),
+        Call::Colour { on } => put_either(out, on, b"on", b"off"),
     }
 }
 
 // Puts the arguments of bytes: eight at most.
-fn put_arguments(out: &mut [u8], at: usize, bytes: Bytes) -> usize
-    requires { at + 33 ≤ length out.old }
-    ensures { Appended out.old out.new at result (spaced (bytes_words bytes)) }
+fn put_bytes(out: &mut Text<40>, bytes: Bytes)
+    requires { length out.old + 33 ≤ 40 }
+    ensures { out.new ≡ out.old ++ spaced (bytes_words bytes) }
 {
-    let count = at_most_eight(bytes.count);
-    let at = put_hexadecimal(out, at, bytes.address as u64, 4);
-    let at = put_hexadecimal(out, at, bytes.bytes, 2 * count);
-    put_decimal(out, at, bytes.times)
+    let count = bytes.count.min(8) as usize;
+    put_hexadecimal(out, bytes.address as u64, 4);
+    put_hexadecimal(out, bytes.bytes, 2 * count);
+    put_decimal(out, bytes.times);
 }
 
-fn at_most_eight(count: u8) -> usize
-    ensures { result ≡ min count 8 }
+// The word of a kind.
+fn kind_word(kind: u8) -> &'static [u8]
+    ensures word { result.now ≡ kind_word kind }
+    ensures most { length result.now ≤ 10 }
 {
-    if count < 8 { count as usize } else { 8 }
-}
-
-// Puts a space and the word of a kind.
-fn put_kind(out: &mut [u8], at: usize, kind: u8) -> usize
-    requires { at + 11 ≤ length out.old }
-    ensures { Appended out.old out.new at result (32 ∷ kind_word kind) }
-{
-    if kind == 0 {
-        return put_word(out, at, b"write");
+    match kind {
+        0 => b"write",
+        1 => b"read",
+        _ => b"read-write",
     }
-    if kind == 1 {
-        return put_word(out, at, b"read");
-    }
-    put_word(out, at, b"read-write")
 }
 
 // Puts a space and one of two words.
-fn put_either(out: &mut [u8], at: usize, first: bool, one: &[u8], other: &[u8]) -> usize
-    requires { (at + 1 + length one.now ≤ length out.old) × (at + 1 + length other.now ≤ length out.old) }
-    ensures { Appended out.old out.new at result (32 ∷ cond first one.now other.now) }
+fn put_either(out: &mut Text<40>, first: bool, one: &[u8], other: &[u8])
+    requires { (length out.old + 1 + length one.now ≤ 40) × (length out.old + 1 + length other.now ≤ 40) }
+    ensures put { out.new ≡ out.old ++ 32 ∷ cond first one.now other.now }
+    ensures most { length out.new ≤ length out.old + 1 + max (length one.now) (length other.now) }
 {
     if first {
-        return put_word(out, at, one);
+        put_word(out, one);
+    } else {
+        put_word(out, other);
     }
-    put_word(out, at, other)
 }
 
 // Puts a space and a decimal number.
-fn put_decimal(out: &mut [u8], at: usize, n: u32) -> usize
-    requires { at + 11 ≤ length out.old }
-    ensures { Appended out.old out.new at result (32 ∷ decimalText n) }
+fn put_decimal(out: &mut Text<40>, n: u32)
+    requires { length out.old + 11 ≤ 40 }
+    ensures put { out.new ≡ out.old ++ 32 ∷ decimalText n }
+    ensures most { length out.new ≤ length out.old + 11 }
 {
-    let at = texts::put_byte(out, at, b' ');
-    texts::put_decimal(out, at, n)
+    out.put_byte(b' ');
+    out.put_decimal(n);
 }
 
 // Puts a space and the last k hexadecimal digits of a number.
-fn put_hexadecimal(out: &mut [u8], at: usize, n: u64, k: usize) -> usize
-    requires { at + 1 + k ≤ length out.old }
-    ensures { Appended out.old out.new at result (32 ∷ digits 16 k n) }
+fn put_hexadecimal(out: &mut Text<40>, n: u64, k: usize)
+    requires { length out.old + 1 + k ≤ 40 }
+    ensures put { out.new ≡ out.old ++ 32 ∷ digits 16 k n }
+    ensures len { length out.new ≡ length out.old + (1 + k) }
 {
-    let at = texts::put_byte(out, at, b' ');
-    texts::put_digits(out, at, n, 16, k)
+    out.put_byte(b' ');
+    out.put_digits(n, 16, k);
 }
 
 // Puts a space and a word.
-fn put_word(out: &mut [u8], at: usize, word: &[u8]) -> usize
-    requires { at + 1 + length word.now ≤ length out.old }
-    ensures { Appended out.old out.new at result (32 ∷ word.now) }
+fn put_word(out: &mut Text<40>, word: &[u8])
+    requires { length out.old + 1 + length word.now ≤ 40 }
+    ensures put { out.new ≡ out.old ++ 32 ∷ word.now }
+    ensures len { length out.new ≡ length out.old + (1 + length word.now) }
 {
-    let at = texts::put_byte(out, at, b' ');
-    texts::put_bytes(out, at, word)
+    out.put_byte(b' ');
+    out.put(word);
 }

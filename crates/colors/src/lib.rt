@@ -4,9 +4,8 @@
 ghost use Rattle.std.specs.Prelude.{◌≡◌, true, ◌<◌, ◌+◌, ◌*◌, ◌/◌, ◌%◌, set};
 ghost use Rattle.colors.specs.Colour.{colour_of, raw_of};
 ghost use Rattle.colors.specs.Shade.{shade};
-ghost use Rattle.colors.specs.Palettes.{colour_at, palette_of, palette, palette_set, greys, word};
-ghost use Rattle.colors.specs.Palettes.{fresh_set, index_written, data_written, after_write, next, index_read, data_read};
-ghost use Rattle.wrap.specs.Wrap.{bit_at};
+ghost use Rattle.colors.specs.Palettes.{colour_at, palette_of, palette, palette_set, grey, greys, word};
+ghost use Rattle.colors.specs.Palettes.{fresh_set, index_written, data_written, after_write, index_read, data_read};
 
 #[derive(Clone, Copy)]
 pub struct Color {
@@ -15,6 +14,7 @@ pub struct Color {
     pub b: u8,
 }
 
+// docs/PROMISES.md names these two; `From` would be no plainer, since each drops bits.
 impl Color {
     pub fn from_raw(raw: u16) -> Self
         ensures { result ≡ colour_of raw }
@@ -36,7 +36,7 @@ impl Color {
     }
 }
 
-// Four colours as words.
+// Four colours as words: four numbers and no array, as docs/01-scope.md has a queued pixel's palette.
 #[derive(Clone, Copy)]
 pub struct ColorPalette {
     pub c0: u16,
@@ -49,16 +49,8 @@ impl ColorPalette {
     pub fn new(colors: [Color; 4]) -> Self
         ensures { result ≡ palette_of colors }
     {
-        let a = colors[0];
-        let b = colors[1];
-        let c = colors[2];
-        let d = colors[3];
-        ColorPalette {
-            c0: a.to_raw(),
-            c1: b.to_raw(),
-            c2: c.to_raw(),
-            c3: d.to_raw(),
-        }
+        let [c0, c1, c2, c3] = colors.map(Color::to_raw);
+        ColorPalette { c0, c1, c2, c3 }
     }
 
     // The colour of a colour number, modulo 4.
@@ -113,14 +105,17 @@ impl PaletteSet {
         ensures { self.new ≡ index_written self.old «data» }
     {
         self.index = data % 64;
-        self.auto = counts_on(data);
+        self.auto = wrap::bit(data, 7);
     }
 
     pub fn write_color_data(&mut self, data: u8)
         requires { self.old.index < 64 }
         ensures { self.new ≡ data_written self.old «data» }
     {
-        self.index = store(&mut self.bytes, self.index, self.auto, data);
+        self.bytes[self.index as usize] = data;
+        if self.auto {
+            self.index = (self.index + 1) % 64;
+        }
     }
 
     // The set after a write to its data port, or else to its index port: for those who hold it by value.
@@ -176,36 +171,12 @@ impl PaletteSet {
     }
 }
 
-// Whether data writes count on after an index write.
-fn counts_on(data: u8) -> bool
-    ensures { result ≡ bit_at «data» 7 }
-{
-    wrap::bit(data, 7)
-}
-
-// Stores a byte at the index, and says the index after it.
-fn store(bytes: &mut [u8; 64], index: u8, auto: bool, data: u8) -> u8
-    requires { index < 64 }
-    ensures { (result ≡ next auto index) × (bytes.new ≡ set bytes.old index «data») }
-{
-    let at = index as usize;
-    bytes[at] = data;
-    if auto { (index + 1) % 64 } else { index }
-}
-
 // The word at byte i, low byte first.
 pub fn word_at(bytes: [u8; 64], i: usize) -> u16
     requires { i < 63 }
     ensures { result ≡ word bytes i }
 {
-    word_of(bytes[i], bytes[i + 1])
-}
-
-// A word from its two bytes.
-fn word_of(low: u8, high: u8) -> u16
-    ensures { result ≡ low + high * 256 }
-{
-    low as u16 + high as u16 * 256
+    u16::from_le_bytes([bytes[i], bytes[i + 1]])
 }
 
 // The bytes with a word at byte i, low byte first.
@@ -214,31 +185,22 @@ pub fn with_word(bytes: [u8; 64], i: usize, w: u16) -> [u8; 64]
     ensures { result ≡ set (set bytes i (w % 256)) (i + 1) (w / 256) }
 {
     let mut out = bytes;
-    out[i] = (w % 256) as u8;
-    out[i + 1] = (w / 256) as u8;
+    let [low, high] = w.to_le_bytes();
+    out[i] = low;
+    out[i + 1] = high;
     out
+}
+
+// A colour of equal parts.
+fn grey(v: u8) -> Color
+    ensures { result ≡ grey v }
+{
+    Color { r: v, g: v, b: v }
 }
 
 // The four greys of the start, from white to black.
 pub fn grey_palette() -> ColorPalette
     ensures { result ≡ greys }
 {
-    ColorPalette::new([
-        Color {
-            r: 31,
-            g: 31,
-            b: 31,
-        },
-        Color {
-            r: 21,
-            g: 21,
-            b: 21,
-        },
-        Color {
-            r: 10,
-            g: 10,
-            b: 10,
-        },
-        Color { r: 0, g: 0, b: 0 },
-    ])
+    ColorPalette::new([grey(31), grey(21), grey(10), grey(0)])
 }

@@ -1,4 +1,5 @@
 -- The two halves of a draw are the draw, and the second changes no slot. Where nothing joins, the first is one cycle of the delay.
+use Rattle.std.proofs.Common.{Option, Some, None}
 use Rattle.std.proofs.Common.{◌≡◌, ℕ, ◌+◌, ◌-◌, ◌<◌, Bool, true, false, cond, not, ◌||◌, eqb, leb, List, sym, refl, ap, ◌∙◌, true≢false, arith, ne_eqb, leb-false}
 use borrow.Author.Tests.{not-false}
 use Rattle.logic.proofs.Tests.{by_test}
@@ -11,8 +12,6 @@ use Rattle.fifo.proofs.Sprites.{sprite_popped_slots}
 use Rattle.pixel.proofs.Added.{sprites_none}
 use Rattle.pixel.specs.Sprites.{none_starts}
 use Rattle.state.specs.With.{with_pipe, with_fetcher, with_queues, with_discard}
-use Rattle.state.specs.declared.Waiting.{Waiting}
-use Rattle.state.specs.declared.Waiting.TheVariants.{Row, Nothing}
 use Rattle.state.specs.declared.Pipe.{Pipe}
 use Rattle.state.specs.declared.State.{State}
 use Rattle.pipe.specs.Window.{opened, enters, windowed}
@@ -22,6 +21,7 @@ use Rattle.draw.specs.Draw.{spot, fed_pipe, discarded, ready, pixel_bytes, after
 use Rattle.draw.specs.Halves.{gives, joined, prepared, waits, joins, both_popped, front_drawn, leaves, taken_over}
 use Rattle.draw.specs.declared.Drawn.{Drawn}
 use Rattle.draw.proofs.Fine.{fed_pipe_fine, queue_ready_fine}
+use Rattle.bg_attribs.specs.declared.BgAttribute.{BgAttribute}
 
 -- the halves are the draw
 module _ (vram : List ℕ) (s : State) (p : Pipe) where
@@ -91,9 +91,9 @@ module _ (s : State) where
   taken_over_law = leaves_cases (λ (d : Drawn). Stays d.state) s refl discard_stays end_stays next_stays
 
 -- where nothing joins, the first half is one cycle of the fetch delay
-fed_none : (palettes : List ℕ) (w : Waiting) (p : Pipe) → waits w ≡ false → fed_by palettes w p ≡ p
-fed_none palettes (Row t) p e = absurd (true≢false e)
-fed_none palettes Nothing p e = refl
+fed_none : (palettes : List ℕ) (w : Option BgAttribute) (p : Pipe) → waits w ≡ false → fed_by palettes w p ≡ p
+fed_none palettes (Some t) p e = absurd (true≢false e)
+fed_none palettes None p e = refl
 
 module _ (vram : List ℕ) (s : State) (none : joins s ≡ false) where
   abbrev entering : Bool

@@ -1,5 +1,5 @@
 -- 01, "One draw": the window, the fetch, the row that goes in, and then a discard or a pixel; and the end of a line.
-use Rattle.std.specs.Prelude.{◌≡◌, ℕ, ◌+◌, ◌-◌, ◌%◌, ◌<◌, Bool, false, cond, List, length, ◌==◌, nat_le}
+use Rattle.std.specs.Prelude.{◌≡◌, ℕ, ◌+◌, ◌-◌, ◌%◌, ◌<◌, Bool, false, cond, List, length, ◌==◌, nat_le, Option, Some, None}
 use Rattle.wrap.specs.Wrap.{up}
 use Rattle.hardware.specs.Screen.{width}
 use Rattle.hardware.specs.Tables.{vram_bytes}
@@ -20,9 +20,8 @@ use Rattle.state.specs.declared.State.{State}
 use Rattle.order.specs.Fine.{SelectionFine, PipeFine}
 use Rattle.pipe.specs.Window.{opened, emptied, windowed}
 use Rattle.pipe.specs.Fetching.{fetched_pipe, fed}
-use Rattle.draw.specs.declared.Shot.{Shot}
-use Rattle.draw.specs.declared.Shot.TheVariants.{Place, Nothing}
 use Rattle.draw.specs.declared.Drawn.{Drawn}
+use Rattle.draw.specs.declared.Place.{Place}
 
 -- what a pixel needs: VRAM of its length, a column of the screen, a selection and a pipe in order
 pub record Drawable (vram : List ℕ) (s : State) (p : Pipe) : Type 0 where
@@ -89,13 +88,16 @@ after_pixel s p = cond (s.beam.x + 1 == width) (end_state s p) (next_state s p)
 
 -- the ways of a draw: nothing, a discard, a pixel: the place with its three bytes
 abbrev pub idle_drawn : State → Pipe → Drawn
-idle_drawn s p = record { state = with_pipe s p; shot = Nothing }
+idle_drawn s p = record { state = with_pipe s p; shot = None }
 
 abbrev pub discard_drawn : State → Pipe → Drawn
-discard_drawn s p = record { state = with_pipe s (discarded p); shot = Nothing }
+discard_drawn s p = record { state = with_pipe s (discarded p); shot = None }
 
-abbrev pub place_at : List ℕ → State → Pipe → Shot
-place_at vram s p = Place s.beam.x s.beam.line (pixel_bytes vram s p)
+abbrev pub shot_at : ℕ → ℕ → Rgb → Option Place
+shot_at x y p = Some (record { x = x; y = y; rgb = p })
+
+abbrev pub place_at : List ℕ → State → Pipe → Option Place
+place_at vram s p = shot_at s.beam.x s.beam.line (pixel_bytes vram s p)
 
 abbrev pub pixel_drawn : List ℕ → State → Pipe → Drawn
 pixel_drawn vram s p = record { state = after_pixel s (popped vram s p); shot = place_at vram s p }

@@ -1,5 +1,5 @@
 -- A draw in two halves: the queues are made ready, and the front leaves. Together they are `drawn`.
-use Rattle.std.specs.Prelude.{ℕ, Bool, true, false, cond, not, ◌&&◌, ◌||◌, List, ◌==◌, nat_le}
+use Rattle.std.specs.Prelude.{ℕ, Bool, cond, not, ◌&&◌, ◌||◌, List, ◌==◌, nat_le, Option, is_some}
 use Rattle.fifo.specs.Background.{bg_front, bg_rest}
 use Rattle.fifo.specs.Sprites.{sprite_popped}
 use Rattle.lcd.specs.Mix.{mix}
@@ -7,14 +7,12 @@ use Rattle.lcd.specs.declared.Rgb.{Rgb}
 use Rattle.pixel.specs.Sprites.{none_starts}
 use Rattle.pixel.specs.Mixer.{seen}
 use Rattle.state.specs.With.{with_registers, with_pipe, with_beam, with_stat, with_column, with_queues}
-use Rattle.state.specs.declared.Waiting.{Waiting}
-use Rattle.state.specs.declared.Waiting.TheVariants.{Row, Nothing}
 use Rattle.state.specs.declared.Pipe.{Pipe}
 use Rattle.state.specs.declared.State.{State}
 use Rattle.pipe.specs.Window.{opened, enters}
-use Rattle.draw.specs.Draw.{fed_pipe, ready, after_pixel, idle_drawn, discard_drawn}
-use Rattle.draw.specs.declared.Shot.TheVariants.{Place}
+use Rattle.draw.specs.Draw.{fed_pipe, ready, after_pixel, idle_drawn, discard_drawn, shot_at}
 use Rattle.draw.specs.declared.Drawn.{Drawn}
+use Rattle.bg_attribs.specs.declared.BgAttribute.{BgAttribute}
 
 -- a pixel is given: more than 8 queued, and none to discard
 abbrev pub gives : Pipe → Bool
@@ -28,9 +26,8 @@ unfoldable pub prepared : List ℕ → State → Pipe
 prepared vram s = joined vram s (fed_pipe (opened s.regs s.beam.line) vram s)
 
 -- a row waits
-abbrev pub waits : Waiting → Bool
-waits (Row t) = true
-waits Nothing = false
+abbrev pub waits : Option BgAttribute → Bool
+waits t = is_some t
 
 -- something may join the pipe: the window is entered, a row is fetched, a row goes in, or a sprite starts. Else the first half
 -- is one cycle of the fetch delay
@@ -49,7 +46,7 @@ front_bytes s = mix (seen s.regs (bg_front s.pipe.bg) (sprite_popped s.pipe.obj)
 
 abbrev pub front_drawn : State → Drawn
 front_drawn s =
-    record { state = after_pixel s (both_popped s.pipe); shot = Place s.beam.x s.beam.line (front_bytes s) }
+    record { state = after_pixel s (both_popped s.pipe); shot = shot_at s.beam.x s.beam.line (front_bytes s) }
 
 unfoldable pub leaves : State → Drawn
 leaves s =

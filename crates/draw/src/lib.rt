@@ -16,20 +16,21 @@ ghost use Rattle.draw.specs.Halves.{waits, joins, prepared, front_drawn, leaves,
 
 use hardware::Machine;
 use lcd::Rgb;
-use state::{Beam, Fetcher, Pipe, Registers, Spot, State, Waiting};
+use state::{Beam, Pipe, Registers, Spot, State};
 
-// What a draw answers besides the state: a place, by column and line, with its three bytes, or nothing.
+// A place that was drawn: its column, its line, and its three bytes.
 #[derive(Clone, Copy)]
-pub enum Shot {
-    Place(u8, u8, Rgb),
-    Nothing,
+pub struct Place {
+    pub x: u8,
+    pub y: u8,
+    pub rgb: Rgb,
 }
 
-// The state after a draw, and what it answered.
+// The state after a draw, and the place that it drew, if it drew one.
 #[derive(Clone, Copy)]
 pub struct Drawn {
     pub state: State,
-    pub shot: Shot,
+    pub shot: Option<Place>,
 }
 
 // The place that is drawn next.
@@ -138,17 +139,6 @@ fn after_pixel(s: State, p: Pipe) -> State
     n
 }
 
-// Whether the fetched row waits for the background queue.
-fn does_wait(f: Fetcher) -> bool
-    ensures { result ≡ waits f.waiting }
-{
-    let waiting = f.waiting;
-    match waiting {
-        Waiting::Row(_) => true,
-        Waiting::Nothing => false,
-    }
-}
-
 // Whether something may join the pipe in a draw: else its first half is one cycle of the fetch delay.
 pub fn does_join(s: State) -> bool
     requires { s.selection.count ≤ 10 }
@@ -162,7 +152,7 @@ pub fn does_join(s: State) -> bool
         return true;
     }
     if s.pipe.bg.len <= 8 {
-        return does_wait(s.pipe.fetcher);
+        return s.pipe.fetcher.waiting.is_some();
     }
     !pixel::does_none_start(s.selection, s.beam.x)
 }
@@ -214,7 +204,11 @@ fn draw_pixel(s: State) -> Drawn
     let state = after_pixel(s, n);
     Drawn {
         state,
-        shot: Shot::Place(s.beam.x, s.beam.line, lcd::mixed(color)),
+        shot: Some(Place {
+            x: s.beam.x,
+            y: s.beam.line,
+            rgb: lcd::mixed(color),
+        }),
     }
 }
 
@@ -226,7 +220,7 @@ fn shift(s: State) -> Drawn
     if s.pipe.bg.len <= 8 {
         return Drawn {
             state: s,
-            shot: Shot::Nothing,
+            shot: None,
         };
     }
     if s.pipe.discard == 0 {
@@ -237,7 +231,7 @@ fn shift(s: State) -> Drawn
     n.pipe = pipe;
     Drawn {
         state: n,
-        shot: Shot::Nothing,
+        shot: None,
     }
 }
 

@@ -1,4 +1,5 @@
 -- The sprite queue: specs/Laws is so, and what the mix of a row with the pixels that wait has of either.
+use Rattle.std.proofs.Common.{Some, None}
 use mathlib.Core.Path.{◌≡◌, refl, ap, sym, ◌∙◌}
 use mathlib.Core.Bool.{Bool, true, ◌&&◌}
 use mathlib.Core.List.{List, [], ◌∷◌}
@@ -14,7 +15,6 @@ use Rattle.logic.proofs.Both.{both, first, second}
 use Rattle.logic.proofs.Every.{every_cons}
 use Rattle.fifo.specs.declared.SpriteFifoPixel.{SpriteFifoPixel}
 use Rattle.fifo.specs.declared.SpriteFifo.{SpriteFifo}
-use Rattle.fifo.specs.declared.SpritePop.TheVariants.{Pixel, Nothing}
 use Rattle.fifo.specs.declared.SpritePopped.{SpritePopped}
 use Rattle.fifo.specs.Ring.{live}
 use Rattle.fifo.specs.Sprites.{sprite_blank, sprite_queued, inked, inked_row, covers, over, merged, sprite_front, sprite_rest, sprite_popped}
@@ -83,7 +83,7 @@ sprite_pushed_every coord q row test slots eight h a b =
 pub sprite_popped_law : SpritePops
 sprite_popped_law q h = live_pop 8 sprite_blank q.pixels q.head q.len h
 
-pub sprite_popped_none : (q : SpriteFifo) → q.len ≡ 0 → sprite_popped q ≡ record { answer = Nothing; fifo = q }
+pub sprite_popped_none : (q : SpriteFifo) → q.len ≡ 0 → sprite_popped q ≡ record { answer = None; fifo = q }
 unfolding sprite_popped
 sprite_popped_none q e = rw (eq-eqb _ _ e)
 
@@ -93,8 +93,8 @@ sprite_popped_some q h = rw (ne_eqb q.len 0 (λ e. omega arith))
 
 -- the same with no case apart: an empty queue stays as it is
 module _ (q : SpriteFifo) where
-  none_or_some : (P : SpritePopped → Type 0) → (q.len ≡ 0 → P (record { answer = Nothing; fifo = q }))
-      → (0 < q.len → P (record { answer = Pixel (sprite_front q); fifo = sprite_rest q })) → P (sprite_popped q)
+  none_or_some : (P : SpritePopped → Type 0) → (q.len ≡ 0 → P (record { answer = None; fifo = q }))
+      → (0 < q.len → P (record { answer = Some (sprite_front q); fifo = sprite_rest q })) → P (sprite_popped q)
   none_or_some P none some = ⊎_elim (λ e. rw (sprite_popped_none q e) (none e)) (λ h. rw (sprite_popped_some q h) (some h)) (eq-zero-or-pos q.len)
 
   front_and_rest : (test : SpriteFifoPixel → Bool) → 0 < q.len → every test (sprite_queued q) ≡ true
@@ -105,11 +105,11 @@ pub sprite_nothing : SpriteGivesNothing
 unfolding live
 sprite_nothing q = (given, left)
   where
-    given : (sprite_popped q).answer ≡ Nothing → sprite_queued q ≡ []
+    given : (sprite_popped q).answer ≡ None → sprite_queued q ≡ []
     given =
-        none_or_some q (λ r. r.answer ≡ Nothing → sprite_queued q ≡ []) (λ e n. rw e) (λ h n. let z : ◌≡◌ {A = ℕ} 0 1 = cc in absurd (omega arith))
+        none_or_some q (λ r. r.answer ≡ None → sprite_queued q ≡ []) (λ e n. rw e) (λ h n. let z : ◌≡◌ {A = ℕ} 0 1 = cc in absurd (omega arith))
 
-    left : sprite_queued q ≡ [] → sprite_popped q ≡ record { answer = Nothing; fifo = q }
+    left : sprite_queued q ≡ [] → sprite_popped q ≡ record { answer = None; fifo = q }
     left e = sprite_popped_none q (sym (sprite_length q) ∙ ap length e)
 
 pub sprite_popped_len : SpritePopLen
@@ -125,6 +125,6 @@ sprite_popped_every q test e =
 -- the pixel popped was queued
 pub sprite_pixel_every : SpritePixelEvery
 sprite_pixel_every q test p e =
-    none_or_some q (λ r. r.answer ≡ Pixel p → test p ≡ true)
+    none_or_some q (λ r. r.answer ≡ Some p → test p ≡ true)
     (λ z n. let z : ◌≡◌ {A = ℕ} 0 1 = cc in absurd (omega arith))
     (λ h n. let same : sprite_front q ≡ p = cc in rw (← same) (first _ (every test (sprite_queued (sprite_rest q))) (front_and_rest q test h e)))

@@ -1,13 +1,12 @@
 -- What the queues do, said of the queued pixels as a list, front to back (`bg_queued`, `sprite_queued`). A reader can follow a
 -- draw by these statements and never has to think of a ring's slots, of its head, or of what a dead slot still holds.
 -- Each is proved, of any queue and any row: those of the background in proofs/Background, those of sprites in proofs/Sprites.
-use Rattle.std.specs.Prelude.{◌+◌, ◌-◌, ◌≤◌, ◌<◌, ◌≡◌, Bool, true, List, [], ◌∷◌, ◌++◌, length}
+use Rattle.std.specs.Prelude.{◌+◌, ◌-◌, ◌≤◌, ◌<◌, ◌≡◌, Bool, true, List, [], ◌∷◌, ◌++◌, length, Some, None}
 use Rattle.logic.specs.Every.{every}
 use Rattle.fifo.specs.declared.BgFifoPixel.{BgFifoPixel}
 use Rattle.fifo.specs.declared.BgFifo.{BgFifo}
 use Rattle.fifo.specs.declared.SpriteFifoPixel.{SpriteFifoPixel}
 use Rattle.fifo.specs.declared.SpriteFifo.{SpriteFifo}
-use Rattle.fifo.specs.declared.SpritePop.TheVariants.{Pixel, Nothing}
 use Rattle.fifo.specs.Background.{bg_queued, bg_fresh, bg_pushed, bg_front, bg_rest, bg_cleared}
 use Rattle.fifo.specs.Sprites.{sprite_queued, sprite_fresh, merged, sprite_pushed, sprite_cleared}
 use Rattle.fifo.specs.Sprites.{sprite_front, sprite_rest, sprite_popped}
@@ -55,14 +54,14 @@ abbrev pub SpritePops : Type 0
 SpritePops = (q : SpriteFifo) → 0 < q.len → sprite_queued q ≡ sprite_front q ∷ sprite_queued (sprite_rest q)
 
 abbrev pub SpriteGives : Type 0
-SpriteGives = (q : SpriteFifo) → 0 < q.len → sprite_popped q ≡ record { answer = Pixel (sprite_front q); fifo = sprite_rest q }
+SpriteGives = (q : SpriteFifo) → 0 < q.len → sprite_popped q ≡ record { answer = Some (sprite_front q); fifo = sprite_rest q }
 
 -- it gives nothing exactly if nothing is queued, and then the queue stays as it is
 abbrev pub SpriteGivesNothing : Type 0
 SpriteGivesNothing =
     (q : SpriteFifo)
-    → ((sprite_popped q).answer ≡ Nothing → sprite_queued q ≡ [])
-    × (sprite_queued q ≡ [] → sprite_popped q ≡ record { answer = Nothing; fifo = q })
+    → ((sprite_popped q).answer ≡ None → sprite_queued q ≡ [])
+    × (sprite_queued q ≡ [] → sprite_popped q ≡ record { answer = None; fifo = q })
 
 -- What the crates above use of a queue that changed: how many slots it has, how many pixels are queued, and that a test which
 -- every queued pixel passed, and every pixel that joined, is passed by every queued pixel.
@@ -112,7 +111,7 @@ SpritePopEvery =
 abbrev pub SpritePixelEvery : Type 0
 SpritePixelEvery =
     (q : SpriteFifo) (test : SpriteFifoPixel → Bool) (p : SpriteFifoPixel) → every test (sprite_queued q) ≡ true
-    → (sprite_popped q).answer ≡ Pixel p → test p ≡ true
+    → (sprite_popped q).answer ≡ Some p → test p ≡ true
 
 abbrev pub SpriteClearEvery : Type 0
 SpriteClearEvery = (test : SpriteFifoPixel → Bool) (q : SpriteFifo) → every test (sprite_queued (sprite_cleared q)) ≡ true

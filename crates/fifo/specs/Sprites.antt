@@ -1,8 +1,7 @@
 -- Pan Docs, "Pixel FIFO" and "Drawing priority": the sprite queue. A sprite's eight pixels are mixed with those that wait.
-use Rattle.std.specs.Prelude.{ℕ, ◌+◌, ◌-◌, ◌%◌, Bool, false, not, cond, ◌&&◌, ◌||◌, List, [], ◌∷◌, map, eqb, ltb, get_or, replicate}
+use Rattle.std.specs.Prelude.{ℕ, ◌+◌, ◌-◌, ◌%◌, Bool, false, not, cond, ◌&&◌, ◌||◌, List, [], ◌∷◌, map, eqb, ltb, get_or, replicate, Some, None}
 use Rattle.fifo.specs.declared.SpriteFifoPixel.{SpriteFifoPixel}
 use Rattle.fifo.specs.declared.SpriteFifo.{SpriteFifo}
-use Rattle.fifo.specs.declared.SpritePop.TheVariants.{Pixel, Nothing}
 use Rattle.fifo.specs.declared.SpritePopped.{SpritePopped}
 use Rattle.fifo.specs.Ring.{live, laid}
 
@@ -57,8 +56,8 @@ unfoldable pub sprite_popped : SpriteFifo → SpritePopped
 sprite_popped q =
     cond
     (eqb q.len 0)
-    (record { answer = Nothing; fifo = q })
-    (record { answer = Pixel (sprite_front q); fifo = sprite_rest q })
+    (record { answer = None; fifo = q })
+    (record { answer = Some (sprite_front q); fifo = sprite_rest q })
 
 -- emptied, the slots stay
 abbrev pub sprite_cleared : SpriteFifo → SpriteFifo

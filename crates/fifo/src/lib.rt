@@ -1,9 +1,9 @@
 // The pixel queues: sixteen slots for the background, eight for sprites, each a ring with a head and a length.
 #![tactic(auto)]
 
-ghost use Rattle.std.specs.Prelude.{◌≡◌, ◌<◌, ◌≤◌};
-ghost use Rattle.fifo.specs.Background.{bg_fresh, bg_row, bg_pushed, bg_popped, bg_cleared};
-ghost use Rattle.fifo.specs.Sprites.{sprite_fresh, inked, over, inked_row, sprite_pushed, sprite_popped, sprite_cleared};
+ghost use Rattle.std.specs.Prelude.{◌≡◌, ◌+◌, ◌%◌, ◌<◌, ◌≤◌, get_or};
+ghost use Rattle.fifo.specs.Background.{bg_blank, bg_fresh, bg_row, bg_pushed, bg_popped, bg_cleared};
+ghost use Rattle.fifo.specs.Sprites.{sprite_blank, sprite_fresh, inked, over, inked_row, sprite_pushed, sprite_popped, sprite_cleared};
 
 use colors::ColorPalette;
 
@@ -33,6 +33,14 @@ pub struct BgFifo {
     pub pixels: [BgFifoPixel; 16],
     pub head: u8,
     pub len: u8,
+}
+
+// Slot k of a ring of so many slots, counted from its head.
+fn slot<const SLOTS: usize>(head: u8, k: usize) -> usize
+    requires { (0 < SLOTS) × (k < 256) }
+    ensures { result ≡ (head + k) % SLOTS }
+{
+    (head as usize + k) % SLOTS
 }
 
 // What a pop of the background queue gives.
@@ -65,27 +73,28 @@ impl BgFifo {
     }
 
     // Eight pixels of one palette join at the back.
-    pub fn push(self, colors: [u8; 8], palette: ColorPalette, priority: bool) -> Self
+    pub fn push(mut self, colors: [u8; 8], palette: ColorPalette, priority: bool) -> Self
         requires { self.len ≤ 8 }
         ensures { result ≡ bg_pushed self (bg_row palette priority colors) }
     {
-        let mut pixels = self.pixels;
-        let first = self.head as usize + self.len as usize;
-        let mut k = 0;
-        while k < 8 {
-            let at = (first + k) % 16;
-            pixels[at] = BgFifoPixel {
-                color: colors[k],
+        let len = self.len as usize;
+        for (k, color) in colors.iter().enumerate() {
+            self.pixels[slot::<16>(self.head, len + k)] = BgFifoPixel {
+                color: *color,
                 palette,
                 priority,
             };
-            k += 1;
         }
-        BgFifo {
-            pixels,
-            head: self.head,
-            len: self.len + 8,
-        }
+        self.len += 8;
+        self
+    }
+
+    // Pixel k of the queue, counted from the front.
+    pub fn pixel(&self, k: usize) -> BgFifoPixel
+        requires { k < 16 }
+        ensures { result ≡ get_or self.now.pixels ((self.now.head + k) % 16) bg_blank }
+    {
+        self.pixels[slot::<16>(self.head, k)]
     }
 
     // The pixel at the front leaves.
@@ -155,17 +164,10 @@ pub struct SpriteFifo {
     pub len: u8,
 }
 
-// A pixel, or nothing when the queue is empty.
-#[derive(Clone, Copy)]
-pub enum SpritePop {
-    Pixel(SpriteFifoPixel),
-    Nothing,
-}
-
-// What a pop of the sprite queue gives.
+// What a pop of the sprite queue gives: a pixel, or nothing when the queue is empty.
 #[derive(Clone, Copy)]
 pub struct SpritePopped {
-    pub answer: SpritePop,
+    pub answer: Option<SpriteFifoPixel>,
     pub fifo: SpriteFifo,
 }
 
@@ -194,30 +196,29 @@ impl SpriteFifo {
     }
 
     // Eight pixels of a sprite, `ink` in each of the colours, are laid over the queue.
-    pub fn push(self, colors: [u8; 8], ink: SpriteFifoPixel, coord: bool) -> Self
+    pub fn push(mut self, colors: [u8; 8], ink: SpriteFifoPixel, coord: bool) -> Self
         requires { self.len ≤ 8 }
         ensures { result ≡ sprite_pushed coord self (inked_row ink colors) }
     {
-        let mut pixels = self.pixels;
-        let head = self.head as usize;
-        let len = self.len as usize;
-        let mut k = 0;
-        while k < 8 {
-            let at = (head + k) % 8;
-            let new = ink.inked(colors[k]);
-            if k < len {
-                let old = pixels[at];
-                pixels[at] = new.over(old, coord);
+        for (k, color) in colors.iter().enumerate() {
+            let at = slot::<8>(self.head, k);
+            let new = ink.inked(*color);
+            self.pixels[at] = if k < self.len as usize {
+                new.over(self.pixels[at], coord)
             } else {
-                pixels[at] = new;
-            }
-            k += 1;
+                new
+            };
         }
-        SpriteFifo {
-            pixels,
-            head: self.head,
-            len: 8,
-        }
+        self.len = 8;
+        self
+    }
+
+    // Pixel k of the queue, counted from the front.
+    pub fn pixel(&self, k: usize) -> SpriteFifoPixel
+        requires { k < 8 }
+        ensures { result ≡ get_or self.now.pixels ((self.now.head + k) % 8) sprite_blank }
+    {
+        self.pixels[slot::<8>(self.head, k)]
     }
 
     // The pixel at the front leaves, if there is one.
@@ -226,7 +227,7 @@ impl SpriteFifo {
     {
         if self.len == 0 {
             return SpritePopped {
-                answer: SpritePop::Nothing,
+                answer: None,
                 fifo: self,
             };
         }
@@ -239,7 +240,7 @@ impl SpriteFifo {
             len: self.len - 1,
         };
         SpritePopped {
-            answer: SpritePop::Pixel(pixel),
+            answer: Some(pixel),
             fifo,
         }
     }

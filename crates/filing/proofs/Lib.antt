@@ -1,5 +1,5 @@
 -- The laws of `filing` that belong to no one function.
--- the words of marks, and names as they are shown
+-- the words of marks, and the last part of a path
 pub mod Names
 -- when there is a file, and its parts
 pub mod Files

@@ -1,16 +1,17 @@
--- The words of marks, and names as they are shown.
-use Prim.Native.Nat.{ℕ, suc, ◌+◌, ◌≤◌, ◌<◌}
-use mathlib.Core.Path.{◌≡◌, refl, ap}
+-- The words of marks, and the last part of a path.
+use Prim.Native.Nat.{ℕ, zero, suc, ◌+◌, ◌≤◌, ◌<◌}
+use mathlib.Core.Path.{◌≡◌, refl, ap, sym, ◌∙◌}
 use mathlib.Core.Bool.{Bool, cond}
-use mathlib.Core.List.{List, [], ◌∷◌, ◌++◌, map, map-append}
+use mathlib.Core.List.{List, [], ◌∷◌}
 use native.Mathlib.Omega.{arith}
 use native.Mathlib.Numerals.{add-one}
-use lib.ListN.{length, take, drop, get_or, drop_of_length-le}
-use lib.Seq.{drop-cons, take-suc}
-use borrow.Author.Tests.{ne_eqb}
+use lib.ListN.{length, drop, get_or}
+use lib.Dec.{eqb}
+use borrow.Author.Tests.{eq-eqb, ne_eqb}
+use Rattle.std.specs.Prelude.{◌≢◌}
 use Rattle.beam.specs.declared.Mark.{Mark}
 use Rattle.beam.specs.declared.Mark.TheVariants.{No, Whole, Unseen}
-use Rattle.filing.specs.Names.{mark_word, mark_end, behind_slash, shown}
+use Rattle.filing.specs.Names.{mark_word, behind_slash}
 
 -- a mark's word has at most six bytes
 pub mark_word_most : (m : Mark) → length (mark_word m) ≤ 6
@@ -19,32 +20,24 @@ mark_word_most No = omega arith
 mark_word_most Whole = omega arith
 mark_word_most Unseen = omega arith
 
--- at most seven bytes tell that a picture is not whole
-pub mark_end_most : (m : Mark) → length (mark_end m) ≤ 7
-unfolding mark_end
-mark_end_most No = omega arith
-mark_end_most Whole = omega arith
-mark_end_most Unseen = omega arith
-
--- one byte further in a path: a `/` begins the name anew, and any other byte leaves it
-pub slash : (name path : List ℕ) (i : ℕ) → i < length path → get_or path i 0 ≡ 47
-    → behind_slash name (drop i path) ≡ behind_slash (drop (i + 1) path) (drop (i + 1) path)
+-- a path with no `/` leaves the name as it is
+pub no_slash : (name path : List ℕ) → ((k : ℕ) → k < length path → get_or path k 0 ≢ 47) → behind_slash name path ≡ name
 unfolding behind_slash
-slash name path i h e = rw (drop-cons path i 0 h, add-one i, e) refl
+no_slash name [] none = refl
+no_slash name (b ∷ path) none =
+    ap (λ (t : Bool). behind_slash (cond t path name) path) (ne_eqb b 47 (none 0 (omega arith)))
+    ∙ no_slash name path (λ k h. none (suc k) (omega arith))
 
-pub no_slash : (name path : List ℕ) (i : ℕ) → i < length path → (get_or path i 0 ≡ 47 → ⊥)
-    → behind_slash name (drop i path) ≡ behind_slash name (drop (i + 1) path)
+-- the last `/` begins it
+last_slash : (name path : List ℕ) (i : ℕ) → i < length path → get_or path i 0 ≡ 47
+    → ((k : ℕ) → i + 1 ≤ k → k < length path → get_or path k 0 ≢ 47) → behind_slash name path ≡ drop (suc i) path
 unfolding behind_slash
-no_slash name path i h e =
-    rw (drop-cons path i 0 h, add-one i)
-    (ap (λ (t : Bool). behind_slash (cond t (drop (suc i) path) name) (drop (suc i) path)) (ne_eqb (get_or path i 0) 47 e))
+last_slash name [] i h e others = absurd (omega arith)
+last_slash name (b ∷ path) zero h e others =
+    ap (λ (t : Bool). behind_slash (cond t path name) path) (eq-eqb b 47 e) ∙ no_slash path path (λ k g. others (suc k) (omega arith) (omega arith))
+last_slash name (b ∷ path) (suc i) h e others =
+    last_slash (cond (eqb b 47) path name) path i (omega arith) e (λ k g l. others (suc k) (omega arith) (omega arith))
 
--- at the end of a path the name is what it is
-pub ended : (name path : List ℕ) (i : ℕ) → length path ≤ i → name ≡ behind_slash name (drop i path)
-unfolding behind_slash
-ended name path i h = rw (drop_of_length-le path h) refl
-
--- one byte more is shown
-pub shown_more : (name : List ℕ) (k : ℕ) → k < length name
-    → map shown (take k name) ++ (shown (get_or name k 0) ∷ []) ≡ map shown (take (k + 1) name)
-shown_more name k more = rw (add-one k, take-suc name k 0 more, map-append shown (take k name) (get_or name k 0 ∷ [])) refl
+pub after_slash : (path : List ℕ) (i : ℕ) → i < length path → get_or path i 0 ≡ 47
+    → ((k : ℕ) → i + 1 ≤ k → k < length path → get_or path k 0 ≢ 47) → drop (i + 1) path ≡ behind_slash path path
+after_slash path i h e others = rw add-one (sym (last_slash path path i h e others))

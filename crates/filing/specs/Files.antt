@@ -1,9 +1,11 @@
 -- The file of a picture: the picture, and beside it what is known of it.
-use Rattle.std.specs.Prelude.{ℕ, Bool, cond, ◌&&◌, List, [], ◌∷◌, eqb, leb, length}
+use Rattle.std.specs.Prelude.{ℕ, ◌<◌, ◌≡◌, Bool, cond, ◌&&◌, List, [], ◌∷◌, eqb, leb, length}
 use Rattle.hardware.specs.Screen.{picture_bytes}
 use Rattle.texts.specs.Numbers.{decimal}
 use Rattle.png.specs.File.{Text, file}
 use Rattle.beam.specs.declared.Mark.{Mark}
+use Rattle.filing.specs.declared.Unfiled.{Unfiled}
+use Rattle.filing.specs.declared.Unfiled.TheVariants.{Picture, Capture}
 use Rattle.filing.specs.Names.{mark_word, most_name}
 
 -- `Number`, `Mark`, `Stored`, `Capture`
@@ -36,3 +38,8 @@ is_filed picture capture = eqb (length picture) picture_bytes && leb (length cap
 unfoldable pub file_of : List ℕ → ℕ → Mark → ℕ → List ℕ → List ℕ
 file_of picture number mark stored capture =
     cond (is_filed picture capture) (file picture (texts_of number mark stored capture)) []
+
+-- why there is none
+abbrev pub Unfit : List ℕ → List ℕ → Unfiled → Type 0
+Unfit picture capture Picture = length picture ≡ picture_bytes → ⊥
+Unfit picture capture Capture = (length picture ≡ picture_bytes) × (most_name < length capture)

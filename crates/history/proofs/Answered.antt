@@ -10,7 +10,7 @@ use Rattle.order.proofs.Clauses.{ordered}
 use Rattle.beam.specs.Advance.{swaps, advanced}
 use Rattle.step.specs.Step.{lit, settled, report, report_of, off_report}
 use Rattle.ppu.specs.Calls.{no_report}
-use Rattle.ppu.specs.declared.StepAnswer.{StepAnswer}
+use Rattle.ppu.specs.Answers.{StepAnswer}
 use Rattle.history.specs.Run.{World, step, shown, number, steps, nothing, swaps_by, stepping, swapped}
 use Rattle.history.specs.Public.{answer, Stepped, Pictured}
 use Rattle.history.specs.Stored.{Trace}

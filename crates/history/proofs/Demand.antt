@@ -20,7 +20,7 @@ use Rattle.beam.proofs.Marks.{mark_yes}
 use Rattle.step.specs.Step.{lit, working, settled, report, report_of, off_report, shots_of}
 use Rattle.step.proofs.Keeps.{settled_same}
 use Rattle.step.specs.declared.Report.{Report}
-use Rattle.ppu.specs.declared.StepAnswer.{StepAnswer}
+use Rattle.ppu.specs.Answers.{StepAnswer}
 use Rattle.terms.proofs.Pace.{Pace}
 use Rattle.bound.proofs.Potential.{left_positive}
 use Rattle.history.specs.Run.{World, Call, step, number, Turn, stepping, swapped}

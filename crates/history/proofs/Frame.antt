@@ -1,4 +1,5 @@
 -- Statement 6 of specs/Demand: from line 0, cycle 0 to the swap each place is stored once, and the picture holds the bytes.
+use Rattle.std.proofs.Common.{Option}
 use mathlib.Core.Path.{◌≡◌, refl, sym, ap, ◌∙◌}
 use mathlib.Core.Bool.{Bool, true, false, not, cond, ◌&&◌}
 use mathlib.Core.List.{List, [], ◌∷◌}
@@ -14,7 +15,6 @@ use Rattle.lcd.specs.Pictures.{Pictures, PicturesSized, other, shown_of, hidden_
 use Rattle.state.specs.declared.Beam.{Beam}
 use Rattle.state.specs.declared.Pipe.{Pipe}
 use Rattle.state.specs.declared.State.{State}
-use Rattle.draw.specs.declared.Shot.{Shot}
 use Rattle.burst.specs.Burst.{drawn_into}
 use Rattle.beam.specs.Advance.{ends, swaps}
 use Rattle.registers.specs.Write.{kept, blanks, state_written}
@@ -32,6 +32,7 @@ use Rattle.history.proofs.Phase.{Base, Mid}
 use Rattle.history.proofs.Steps.{stepped_part}
 use Rattle.history.proofs.Invariant.{Inv, Full, of_runs, origin_full, on_full, lit_mid}
 use Rattle.history.proofs.Demand.{accepted_now, swaps_now, through_now, pace_now}
+use Rattle.draw.specs.declared.Place.{Place}
 
 -- at a swap the beam is below the picture, and a full run has stored every place
 whole_mid : {base : Base} {n mode line cycle x : ℕ} {p : Pipe} {l : List ℕ} → base.full ≡ true → Mid base n mode line cycle x p l
@@ -57,12 +58,12 @@ abbrev hidden : World → List ℕ
 hidden w = hidden_of w.state.beam.shown w.pictures
 
 -- a picture that draws store in
-draws : (k : ℕ) (p : Pictures) (shots : List Shot) → hidden_of k (drawn_into k shots p) ≡ put (hidden_of k p) (stored_by shots)
+draws : (k : ℕ) (p : Pictures) (shots : List (Option Place)) → hidden_of k (drawn_into k shots p) ≡ put (hidden_of k p) (stored_by shots)
 draws zero p shots = all_stored_law p.b shots
 draws (suc k) p shots = all_stored_law p.a shots
 
 -- shown after a swap
-appears : (k : ℕ) (p : Pictures) (shots : List Shot) → k ≤ 1 → shown_of (other k) (drawn_into k shots p) ≡ put (hidden_of k p) (stored_by shots)
+appears : (k : ℕ) (p : Pictures) (shots : List (Option Place)) → k ≤ 1 → shown_of (other k) (drawn_into k shots p) ≡ put (hidden_of k p) (stored_by shots)
 appears zero p shots h = all_stored_law p.b shots
 appears (suc k) p shots h = let z : k ≡ 0 = omega arith in rw z (all_stored_law p.a shots)
 

@@ -1,4 +1,5 @@
 -- The sizes of what is lent: a start gives them, and every call keeps them.
+use Rattle.std.proofs.Common.{Option}
 use mathlib.Core.Path.{◌≡◌, refl, ◌∙◌}
 use mathlib.Core.Bool.{true, ◌&&◌}
 use mathlib.Core.List.{List, [], ◌∷◌}
@@ -13,13 +14,13 @@ use Rattle.hardware.proofs.Tables.{tables_fit_law}
 use Rattle.lcd.proofs.Pictures.{pictures_fit_law}
 use Rattle.lcd.specs.Pictures.{Pictures, pictures_fit, PicturesSized, SameLengths, filled_with}
 use Rattle.registers.specs.Write.{kept, blanks}
-use Rattle.draw.specs.declared.Shot.{Shot}
 use Rattle.burst.specs.Burst.{all_stored, shot_stored, drawn_into}
 use Rattle.burst.proofs.Ways.{shot_length}
 use Rattle.step.specs.Step.{shots_of}
 use Rattle.history.specs.Run.{World, Turn, Deed, steps, writes, colours, stores, nothing, does, deed_of, perform, fresh_world}
 use Rattle.order.specs.Fine.{Fine}
 use Rattle.history.proofs.Deeds.{Lawful, lawful}
+use Rattle.draw.specs.declared.Place.{Place}
 
 -- both tables and both pictures have their length
 pub record WorldSized (w : World) : Type 0 where
@@ -34,13 +35,13 @@ fresh_sized machine =
     }
 
 -- what the draws of a step store keeps the length of a picture
-stored_length : (picture : List ℕ) (shots : List Shot) → length (all_stored picture shots) ≡ length picture
+stored_length : (picture : List ℕ) (shots : List (Option Place)) → length (all_stored picture shots) ≡ length picture
 unfolding all_stored
 stored_length picture [] = refl
 stored_length picture (shot ∷ rest) = stored_length (shot_stored picture shot) rest ∙ shot_length picture shot
 
 -- the draws of a step, and a blanking
-into_lengths : (shown : ℕ) (shots : List Shot) (p : Pictures) → SameLengths (drawn_into shown shots p) p
+into_lengths : (shown : ℕ) (shots : List (Option Place)) (p : Pictures) → SameLengths (drawn_into shown shots p) p
 into_lengths zero shots p = record { a = refl; b = stored_length p.b shots }
 into_lengths (suc k) shots p = record { a = stored_length p.a shots; b = refl }
 

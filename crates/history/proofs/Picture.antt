@@ -1,4 +1,5 @@
 -- Places that follow one another, stored in a picture: their bytes stand in it in order, and the rest is as it was.
+use Rattle.std.proofs.Common.{Option, Some, None}
 use mathlib.Core.Path.{◌≡◌, refl, sym, ap, ◌∙◌}
 use mathlib.Core.List.{List, [], ◌∷◌, ◌++◌, append_assoc, append-nil}
 use Prim.Native.Nat.{ℕ, suc, ◌+◌, ◌*◌, ◌≤◌}
@@ -9,11 +10,10 @@ use Rattle.hardware.specs.Screen.{places, picture_bytes}
 use Rattle.lcd.specs.Mix.{rgb_bytes}
 use Rattle.lcd.specs.Pictures.{stored}
 use Rattle.lcd.specs.declared.Rgb.{Rgb}
-use Rattle.draw.specs.declared.Shot.{Shot}
-use Rattle.draw.specs.declared.Shot.TheVariants.{Place, Nothing}
 use Rattle.burst.specs.Burst.{all_stored}
 use Rattle.history.specs.Stored.{Stored, stored_by, all_bytes, from, numbers}
 use Rattle.history.proofs.Rising.{from_more, from_length}
+use Rattle.draw.specs.declared.Place.{Place}
 
 -- a picture with places stored in it, one after the other
 unfoldable pub put : List ℕ → List Stored → List ℕ
@@ -21,11 +21,11 @@ put picture [] = picture
 put picture (t ∷ rest) = put (sets picture (3 * t.place) (rgb_bytes t.bytes)) rest
 
 -- a picture that draws stored in is the picture with their places stored in it
-pub all_stored_law : (picture : List ℕ) (shots : List Shot) → all_stored picture shots ≡ put picture (stored_by shots)
+pub all_stored_law : (picture : List ℕ) (shots : List (Option Place)) → all_stored picture shots ≡ put picture (stored_by shots)
 unfolding all_stored stored_by put
 all_stored_law picture [] = refl
-all_stored_law picture (Place x y p ∷ rest) = all_stored_law (stored picture x y p) rest
-all_stored_law picture (Nothing ∷ rest) = all_stored_law picture rest
+all_stored_law picture (Some t ∷ rest) = all_stored_law (stored picture t.x t.y t.rgb) rest
+all_stored_law picture (None ∷ rest) = all_stored_law picture rest
 
 pub put_append : (picture : List ℕ) (l r : List Stored) → put picture (l ++ r) ≡ put (put picture l) r
 unfolding put

@@ -1,4 +1,5 @@
 -- The places that draws store in mode 3 follow one another along the line, and each is counted.
+use Rattle.std.proofs.Common.{Option, None}
 use mathlib.Core.Path.{◌≡◌, refl, sym, ap, ◌∙◌}
 use mathlib.Core.List.{List, [], ◌∷◌}
 use Prim.Native.Nat.{ℕ, zero, suc, ◌+◌, ◌%◌, ◌≤◌, ◌<◌}
@@ -11,16 +12,15 @@ use Rattle.state.specs.With.{mode_of}
 use Rattle.state.specs.declared.State.{State}
 use Rattle.order.specs.Fine.{Fine}
 use Rattle.pipe.specs.Window.{opened}
-use Rattle.draw.specs.Draw.{drawn}
+use Rattle.draw.specs.Draw.{drawn, shot_at}
 use Rattle.draw.specs.declared.Drawn.{Drawn}
-use Rattle.draw.specs.declared.Shot.{Shot}
-use Rattle.draw.specs.declared.Shot.TheVariants.{Place, Nothing}
 use Rattle.draw.proofs.Ways.{drawn_cases}
 use Rattle.draw.proofs.Fine.{drawn_fine}
 use Rattle.burst.specs.Burst.{Burst, burst}
 use Rattle.burst.proofs.Ways.{burst_out}
 use Rattle.history.specs.Stored.{Stored, stored_by, from, numbers}
 use Rattle.history.proofs.Rising.{Rising, from_none, from_more, from_rising}
+use Rattle.draw.specs.declared.Place.{Place}
 
 -- the number of the place that is drawn next
 abbrev pub spot_number : State → ℕ
@@ -28,12 +28,12 @@ spot_number s = place s.beam.x s.beam.line
 
 -- one draw of mode 3: nothing is stored; or the place is, and the next is at its right; or it was the last of the line
 data OneDraw (s : State) (d : Drawn) : Type 0 where
-  nothing : d.shot ≡ Nothing → d.state.beam.line ≡ s.beam.line → d.state.beam.x ≡ s.beam.x
+  nothing : d.shot ≡ None → d.state.beam.line ≡ s.beam.line → d.state.beam.x ≡ s.beam.x
       → d.state.beam.count ≡ s.beam.count → mode_of d.state.regs.stat ≡ 3 → OneDraw s d
-  along : (p : Rgb) → d.shot ≡ Place s.beam.x s.beam.line p → d.state.beam.line ≡ s.beam.line
+  along : (p : Rgb) → d.shot ≡ shot_at s.beam.x s.beam.line p → d.state.beam.line ≡ s.beam.line
       → s.beam.x + 1 < width → d.state.beam.x ≡ s.beam.x + 1
       → d.state.beam.count ≡ (s.beam.count + 1) % 65536 → mode_of d.state.regs.stat ≡ 3 → OneDraw s d
-  last : (p : Rgb) → d.shot ≡ Place s.beam.x s.beam.line p → d.state.beam.line ≡ s.beam.line
+  last : (p : Rgb) → d.shot ≡ shot_at s.beam.x s.beam.line p → d.state.beam.line ≡ s.beam.line
       → s.beam.x + 1 ≡ width → d.state.beam.x ≡ 0
       → d.state.beam.count ≡ (s.beam.count + 1) % 65536 → mode_of d.state.regs.stat ≡ 0 → OneDraw s d
 
@@ -63,11 +63,11 @@ pub stored_none : stored_by [] ≡ []
 unfolding stored_by
 stored_none = refl
 
-pub stored_nothing : {shot : Shot} (rest : List Shot) → shot ≡ Nothing → stored_by (shot ∷ rest) ≡ stored_by rest
+pub stored_nothing : {shot : Option Place} (rest : List (Option Place)) → shot ≡ None → stored_by (shot ∷ rest) ≡ stored_by rest
 unfolding stored_by
 stored_nothing rest e = rw e
 
-pub stored_place : {shot : Shot} {x y : ℕ} {p : Rgb} (rest : List Shot) → shot ≡ Place x y p
+pub stored_place : {shot : Option Place} {x y : ℕ} {p : Rgb} (rest : List (Option Place)) → shot ≡ shot_at x y p
     → stored_by (shot ∷ rest) ≡ record { place = place x y; bytes = p } ∷ stored_by rest
 unfolding stored_by
 stored_place rest e = rw e

@@ -14,8 +14,7 @@ use Rattle.hardware.specs.declared.Machine.{Machine}
 use Rattle.hardware.proofs.Tables.{tables_sized}
 use Rattle.lcd.proofs.Pictures.{pictures_sized}
 use Rattle.lcd.specs.Pictures.{Pictures, pictures, pictures_fit, PicturesSized, filled_with, chosen, shown_of}
-use Rattle.sprite.specs.Pick.{pick_of}
-use Rattle.sprite.specs.declared.Picked.{Picked}
+use Rattle.sprite.specs.Pick.{pick_of, Picked}
 use Rattle.state.specs.declared.State.{State}
 use Rattle.memory.specs.Fresh.{fresh_state, cleared}
 use Rattle.terms.specs.Numbers.{start_number, shown_number}
@@ -24,9 +23,9 @@ use Rattle.locks.specs.Closed.{closed}
 use Rattle.locks.specs.Calls.{LockedVramWrite, LockedOamWrite, locked_vram_read, locked_oam_read}
 use Rattle.locks.specs.declared.Memory.TheVariants.{Vram, Oam}
 use Rattle.ppu.specs.Calls.{Start, Step, RegisterWrite}
-use Rattle.ports.specs.declared.Answer.{Answer}
-use Rattle.ppu.specs.declared.StepAnswer.{StepAnswer}
-use Rattle.ports.specs.declared.ReadAnswer.{ReadAnswer}
+use Rattle.ports.specs.Answers.{Answer}
+use Rattle.ppu.specs.Answers.{StepAnswer}
+use Rattle.ports.specs.Answers.{ReadAnswer}
 use Rattle.history.specs.Run as run
 use Rattle.history.specs.Run.{World, Call, step, write, read, colour, bug, shown, pick, number}
 use Rattle.history.specs.Run.{locked_vram, locked_oam, read_vram, read_oam}

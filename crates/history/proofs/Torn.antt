@@ -8,7 +8,7 @@ use Rattle.state.specs.declared.State.{State}
 use Rattle.beam.specs.Marks.{is_yes}
 use Rattle.beam.specs.declared.Mark.TheVariants.{No}
 use Rattle.beam.proofs.Marks.{mark_no}
-use Rattle.ppu.specs.declared.StepAnswer.{StepAnswer}
+use Rattle.ppu.specs.Answers.{StepAnswer}
 use Rattle.history.specs.Run.{Deed, steps, writes, colours, stores, nothing, swaps_by, blanks_by, Turn, deed_of, blanked}
 use Rattle.history.specs.Stored.{Trace, go}
 use Rattle.history.specs.Demand.{EveryStep, TornFrom, Torn}

@@ -18,7 +18,7 @@ use Rattle.beam.specs.declared.Mark.TheVariants.{No, Unseen}
 use Rattle.beam.proofs.Marks.{mark_again, mark_unseen}
 use Rattle.step.specs.Step.{lit, settled, report, report_of, off_report}
 use Rattle.ppu.specs.Calls.{no_report}
-use Rattle.ppu.specs.declared.StepAnswer.{StepAnswer}
+use Rattle.ppu.specs.Answers.{StepAnswer}
 use Rattle.history.specs.Run.{World, step, number, Turn, fresh_world, blanked}
 use Rattle.history.specs.Public.{answer, Stepped}
 use Rattle.history.specs.Stored.{Trace, go, trace, begun}

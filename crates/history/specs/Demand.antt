@@ -29,7 +29,7 @@ use Rattle.state.specs.With.{mode_of}
 use Rattle.beam.specs.Marks.{is_yes}
 use Rattle.beam.specs.declared.Mark.TheVariants.{No, Unseen}
 use Rattle.step.specs.Step.{lit}
-use Rattle.ppu.specs.declared.StepAnswer.{StepAnswer}
+use Rattle.ppu.specs.Answers.{StepAnswer}
 use Rattle.history.specs.Run.{World, Call, write, number, Turn, ours, stepping, number_of, perform, fresh_world, swapped, blanked}
 use Rattle.history.specs.Public.{answer, shown_picture, Stepped, Pictured}
 use Rattle.history.specs.Stored.{Trace, through, go, trace, begun, numbers, from, all_bytes}

@@ -6,8 +6,7 @@ use Rattle.refusals.specs.Ladder.{done}
 use Rattle.hardware.specs.Tables.{Tables, tables}
 use Rattle.hardware.specs.declared.Machine.{Machine}
 use Rattle.lcd.specs.Pictures.{Pictures, pictures, shown_of, chosen}
-use Rattle.sprite.specs.Pick.{pick_of}
-use Rattle.sprite.specs.declared.Picked.{Picked}
+use Rattle.sprite.specs.Pick.{pick_of, Picked}
 use Rattle.state.specs.declared.State.{State}
 use Rattle.memory.specs.Fresh.{fresh_state}
 use Rattle.registers.specs.Write.{register_read}
@@ -17,9 +16,9 @@ use Rattle.terms.specs.Numbers.{start_number, read_number}
 use Rattle.ports.specs.Calls.{EmptyPart}
 use Rattle.locks.specs.Calls.{locked_vram_read, locked_oam_read}
 use Rattle.ppu.specs.Calls.{no_report}
-use Rattle.ports.specs.declared.Answer.{Answer}
-use Rattle.ppu.specs.declared.StepAnswer.{StepAnswer}
-use Rattle.ports.specs.declared.ReadAnswer.{ReadAnswer}
+use Rattle.ports.specs.Answers.{Answer}
+use Rattle.ppu.specs.Answers.{StepAnswer}
+use Rattle.ports.specs.Answers.{ReadAnswer}
 use Rattle.history.specs.Run as run
 use Rattle.history.specs.Run.{World, Call, step, write, read, colour, bug, shown, pick, ours, perform, fresh_world}
 use Rattle.history.specs.Run.{locked_vram, locked_oam, read_vram, read_oam}

@@ -1,5 +1,5 @@
 -- A world, the calls that may come after a start, the turns of a run, and what the public promises say of one turn.
-use Rattle.std.specs.Prelude.{ℕ, ◌≡◌, Bool, false, cond, ◌&&◌, List, [], replicate}
+use Rattle.std.specs.Prelude.{ℕ, ◌≡◌, Bool, false, cond, ◌&&◌, List, [], replicate, Option}
 use Rattle.refusals.specs.Ladder.{done}
 use Rattle.hardware.specs.Screen.{picture_bytes}
 use Rattle.hardware.specs.declared.Machine.{Machine}
@@ -11,7 +11,6 @@ use Rattle.memory.specs.Writes.{vram_written, oam_written}
 use Rattle.registers.specs.Write.{kept, blanks, state_written, pictures_written, colour_set}
 use Rattle.oam_bug.specs.Kinds.{corrupted}
 use Rattle.sprite.specs.Pick.{pick_number}
-use Rattle.draw.specs.declared.Shot.{Shot}
 use Rattle.beam.specs.Advance.{swaps}
 use Rattle.step.specs.Step.{lit, stepped, shots_of, pictures_after}
 use Rattle.terms.specs.Numbers.{step_number, write_number, read_number, vram_number, oam_number, colour_number, kind_number, shown_number}
@@ -19,6 +18,7 @@ use Rattle.terms.specs.Numbers.{locked_oam_number}
 use Rattle.ports.specs.Calls.{bug_row}
 use Rattle.locks.specs.Closed.{closed}
 use Rattle.locks.specs.declared.Memory.TheVariants.{Vram, Oam}
+use Rattle.draw.specs.declared.Place.{Place}
 
 -- the state and what is lent
 pub record World : Type 0 where
@@ -102,7 +102,7 @@ does (stores t) w = record { state = w.state; tables = t; pictures = w.pictures 
 does nothing w = w
 
 -- what the draws of a deed answer
-abbrev pub shots_by : Deed → State → Tables → List Shot
+abbrev pub shots_by : Deed → State → Tables → List (Option Place)
 shots_by (steps n) s t = shots_of n t s
 shots_by (writes address value) s t = []
 shots_by (colours flag) s t = []
@@ -149,7 +149,7 @@ deed_of (astray c lent e) w = nothing
 abbrev pub perform : Turn → World → World
 perform c w = does (deed_of c w) w
 
-abbrev pub shots_from : Turn → World → List Shot
+abbrev pub shots_from : Turn → World → List (Option Place)
 shots_from c w = shots_by (deed_of c w) w.state w.tables
 
 abbrev pub swapped : Turn → World → Bool

@@ -1,11 +1,10 @@
 -- The places that a run stores since the latest of its start, the last swap and the last blanking.
-use Rattle.std.specs.Prelude.{ℕ, zero, suc, cond, ◌||◌, List, [], ◌∷◌, ◌++◌, map}
+use Rattle.std.specs.Prelude.{ℕ, zero, suc, cond, ◌||◌, List, [], ◌∷◌, ◌++◌, map, Option, Some, None}
 use Rattle.hardware.specs.Screen.{place}
 use Rattle.lcd.specs.Mix.{rgb_bytes}
 use Rattle.lcd.specs.declared.Rgb.{Rgb}
-use Rattle.draw.specs.declared.Shot.{Shot}
-use Rattle.draw.specs.declared.Shot.TheVariants.{Place, Nothing}
 use Rattle.history.specs.Run.{World, Turn, perform, shots_from, swapped, blanked}
+use Rattle.draw.specs.declared.Place.{Place}
 
 -- a stored place: its number, 160 y + x, and its three bytes
 pub record Stored : Type 0 where
@@ -13,10 +12,10 @@ pub record Stored : Type 0 where
   pub bytes : Rgb
 
 -- the places among what draws answered, in order
-unfoldable pub stored_by : List Shot → List Stored
+unfoldable pub stored_by : List (Option Place) → List Stored
 stored_by [] = []
-stored_by (Place x y p ∷ rest) = record { place = place x y; bytes = p } ∷ stored_by rest
-stored_by (Nothing ∷ rest) = stored_by rest
+stored_by (Some t ∷ rest) = record { place = place t.x t.y; bytes = t.rgb } ∷ stored_by rest
+stored_by (None ∷ rest) = stored_by rest
 
 -- the numbers of stored places
 abbrev pub numbers : List Stored → List ℕ

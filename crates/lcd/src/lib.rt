@@ -21,7 +21,7 @@ pub struct Rgb {
 fn quarter_of(sum: u16) -> u8
     ensures { result ≡ quarter sum }
 {
-    if sum < 960 { (sum / 4) as u8 } else { 240 }
+    (sum.min(960) / 4) as u8
 }
 
 // What a colour looks like on the screen, by shifts and adds alone. Of each sum 16 times its own channel, and the rest from sums of two
@@ -64,14 +64,10 @@ pub fn store(picture: &mut [u8], x: u8, y: u8, p: Rgb)
 pub fn fill(picture: &mut [u8], v: u8)
     ensures { picture.new ≡ replicate (length picture.old) v }
 {
-    let mut i = 0;
-    while i < picture.len() {
-        picture[i] = v;
-        i += 1;
-    }
+    picture.fill(v);
 }
 
-// The number of the picture that is not shown.
+// The number of the picture that is not shown. A number, since docs/01-scope.md has the state's "shown picture 0 or 1".
 pub fn next_buffer_index(shown: u8) -> u8
     requires { shown ≤ 1 }
     ensures { result ≡ other shown }

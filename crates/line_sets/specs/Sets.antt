@@ -1,11 +1,9 @@
 -- A set of OAM's entries as a number: bit i is set exactly if entry i is in it.
-use Rattle.std.specs.Prelude.{ℕ, zero, suc, ◌+◌, ◌*◌, ◌^◌, Bool, cond, List, [], ◌∷◌, length, take, ◌==◌, nat_lt}
+use Rattle.std.specs.Prelude.{ℕ, zero, suc, ◌+◌, ◌*◌, ◌^◌, Bool, cond, List, [], ◌∷◌, length, take, ◌==◌, nat_lt, Option, Some, None}
 use Rattle.wrap.specs.Wrap.{bit_at}
 use Rattle.sprite.specs.Pick.{up_to, those, slots_of}
 use Rattle.sprite.specs.declared.SelectedSprite.{SelectedSprite}
 use Rattle.sprite.specs.declared.Selection.{Selection}
-use Rattle.line_sets.specs.declared.Lowest.{Lowest}
-use Rattle.line_sets.specs.declared.Lowest.TheVariants.{Nothing, Entry}
 
 -- the entries of OAM
 abbrev pub entries : ℕ
@@ -33,9 +31,9 @@ abbrev pub put : ℕ → Bool → ℕ → ℕ
 put i on s = set_of (λ j. cond (j == i) on (bit_at s j))
 
 -- the first of a list of entries, or nothing
-abbrev pub first_of : List ℕ → Lowest
-first_of [] = Nothing
-first_of (i ∷ l) = Entry i
+abbrev pub first_of : List ℕ → Option ℕ
+first_of [] = None
+first_of (i ∷ l) = Some i
 
 -- a selection from a set: its ten lowest entries, copied from OAM, over slots that keep what they had past the count
 abbrev pub selection_from : List ℕ → ℕ → List SelectedSprite → Selection

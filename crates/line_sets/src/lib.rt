@@ -1,42 +1,25 @@
 // Which sprites touch which line: a set of OAM's entries for each line, kept beside OAM in lent numbers. Bit i of a line's
 // set says whether entry i touches the line, for sprites as tall as the sets were built for.
+// OAM, sets and height are lent one by one: a question reads the sets alone, and OAM is the machine's own.
 #![tactic(auto)]
 
-ghost use Rattle.std.specs.Prelude.{◌≡◌, ◌%◌, ◌^◌, ◌<◌, true, length, replicate};
+ghost use Rattle.std.specs.Prelude.{◌≡◌, ◌%◌, ◌^◌, ◌<◌, true, length, slice_index, IfOk};
 ghost use Rattle.hardware.specs.Screen.{height};
 ghost use Rattle.hardware.specs.Tables.{oam_bytes};
+ghost use Rattle.refusals.specs.Refused.{number_of};
+ghost use Rattle.sprite.specs.Pick.{picked};
 ghost use Rattle.line_sets.specs.Sets.{entries, is_set, members, put, first_of, selection_from};
 ghost use Rattle.line_sets.specs.Lines.{row_line, put_lines, moved, built};
 ghost use Rattle.line_sets.specs.Numbers.{both_fit, build_number, is_asked, line_number, pick_number};
 ghost use Rattle.line_sets.specs.Numbers.{old_y, new_y, are_sets, is_writable, write_number};
-ghost use Rattle.line_sets.specs.Calls.{Build, Write, count_of, first_on, pick_from};
+ghost use Rattle.line_sets.specs.Calls.{Build, Write, counted, count_of, found, first_on, pick_from};
 
 use hardware::Machine;
-use sprite::{Picked, SelectedSprite, Selection, Sprite};
+use refusals::{Refusal, need};
+use sprite::{SelectedSprite, Selection, Sprite};
 
 // The first number above every set of forty entries.
 const SETS: u64 = 1_099_511_627_776;
-
-// How many entries touch a line; 0 where the call is refused.
-#[derive(Clone, Copy)]
-pub struct Counted {
-    pub number: u8,
-    pub count: u8,
-}
-
-// The lowest entry of a set, if it has one.
-#[derive(Clone, Copy)]
-pub enum Lowest {
-    Nothing,
-    Entry(u8),
-}
-
-// The first entry that touches a line; nothing where the call is refused.
-#[derive(Clone, Copy)]
-pub struct Found {
-    pub number: u8,
-    pub first: Lowest,
-}
 
 // A number that has no bit above that of entry 39.
 fn is_set(set: u64) -> bool
@@ -75,13 +58,11 @@ fn put_lines(sets: &mut [u64], i: u8, on: bool, y: u8, tall: u8)
     requires { (length sets.old ≡ height) × (i < entries) × (are_sets sets.old y tall ≡ true) }
     ensures { sets.new ≡ put_lines i on y tall sets.old }
 {
-    let mut row: u8 = 0;
-    while row < tall {
+    for row in 0..tall {
         let line = row_line(y, row) as usize;
         if line < Machine::HEIGHT {
             sets[line] = put(sets[line], i, on);
         }
-        row += 1;
     }
 }
 
@@ -108,23 +89,12 @@ fn are_sized(oam: &[u8], sets: &[u64]) -> bool
     sets.len() == Machine::HEIGHT
 }
 
-// The number of a build.
-fn build_number(oam: &[u8], sets: &[u64], tall: u8) -> u8
-    ensures { result ≡ build_number oam.now sets.now tall }
+// The terms of a build.
+fn allow_build(oam: &[u8], sets: &[u64], tall: u8) -> Result<(), Refusal>
+    ensures { number_of result ≡ build_number oam.now sets.now tall }
 {
-    let own = refusals::own(sprite::is_tall(tall), 4);
-    refusals::lowest(are_sized(oam, sets), true, own)
-}
-
-// No entry touches any line.
-fn clear(sets: &mut [u64])
-    ensures { sets.new ≡ replicate (length sets.old) 0 }
-{
-    let mut line = 0;
-    while line < sets.len() {
-        sets[line] = 0;
-        line += 1;
-    }
+    need(are_sized(oam, sets), Refusal::Length)?;
+    need(sprite::is_tall(tall), Refusal::Argument)
 }
 
 // The sets of all lines, from OAM.
@@ -132,7 +102,7 @@ fn put_all(oam: &[u8], sets: &mut [u64], tall: u8)
     requires { (length oam.now ≡ oam_bytes) × (length sets.old ≡ height) }
     ensures { sets.new ≡ built oam.now tall }
 {
-    clear(sets);
+    sets.fill(0);
     for i in 0..40 {
         let sprite = Sprite::at(oam, i);
         put_lines(sets, i as u8, true, sprite.y, tall);
@@ -140,15 +110,12 @@ fn put_all(oam: &[u8], sets: &mut [u64], tall: u8)
 }
 
 // Builds the sets afresh, for sprites so tall. Refused by 1, 4.
-pub fn build(oam: &[u8], sets: &mut [u64], tall: u8) -> u8
-    ensures { Build oam.now sets.old tall result sets.new }
+pub fn build(oam: &[u8], sets: &mut [u64], tall: u8) -> Result<(), Refusal>
+    ensures { Build oam.now sets.old tall (number_of result) sets.new }
 {
-    let number = build_number(oam, sets, tall);
-    if number != 0 {
-        return number;
-    }
+    allow_build(oam, sets, tall)?;
     put_all(oam, sets, tall);
-    number
+    Ok(())
 }
 
 // The y of the entry that an address falls on.
@@ -176,15 +143,11 @@ fn are_sets(sets: &[u64], y: u8, tall: u8) -> bool
     requires { length sets.now ≡ height }
     ensures { result ≡ are_sets sets.now y tall }
 {
-    let mut row = 0;
-    while row < tall {
-        let line = row_line(y, row) as usize;
-        if line < Machine::HEIGHT {
-            if !is_set(sets[line]) {
-                return false;
-            }
+    for below in 0..tall {
+        let line = row_line(y, below) as usize;
+        if line < Machine::HEIGHT && !is_set(sets[line]) {
+            return false;
         }
-        row += 1;
     }
     true
 }
@@ -194,10 +157,7 @@ fn is_writable(oam: &[u8], sets: &[u64], tall: u8, address: u16, value: u8) -> b
     requires { (length oam.now ≡ oam_bytes) × (length sets.now ≡ height) }
     ensures { result ≡ is_writable oam.now sets.now tall address value }
 {
-    if !sprite::is_tall(tall) {
-        return false;
-    }
-    if (address % 256) as usize >= Machine::OAM_BYTES {
+    if !sprite::is_tall(tall) || (address % 256) as usize >= Machine::OAM_BYTES {
         return false;
     }
     let old = old_y(oam, address);
@@ -208,30 +168,34 @@ fn is_writable(oam: &[u8], sets: &[u64], tall: u8, address: u16, value: u8) -> b
     are_sets(sets, new, tall)
 }
 
-// The number of a write.
-fn write_number(oam: &[u8], sets: &[u64], tall: u8, address: u16, value: u8) -> u8
-    ensures { result ≡ write_number oam.now sets.now tall address value }
+// The terms of a write.
+fn allow_write(oam: &[u8], sets: &[u64], tall: u8, address: u16, value: u8) -> Result<(), Refusal>
+    ensures { number_of result ≡ write_number oam.now sets.now tall address value }
 {
-    if !are_sized(oam, sets) {
-        return 1;
-    }
-    refusals::own(is_writable(oam, sets, tall, address, value), 4)
+    need(are_sized(oam, sets), Refusal::Length)?;
+    need(
+        is_writable(oam, sets, tall, address, value),
+        Refusal::Argument,
+    )
 }
 
 // An OAM write at the low byte of the address, and the sets with it. Refused by 1, 4.
-pub fn write_oam(oam: &mut [u8], sets: &mut [u64], tall: u8, address: u16, value: u8) -> u8
-    ensures { Write oam.old sets.old tall address value result
+pub fn write_oam(
+    oam: &mut [u8],
+    sets: &mut [u64],
+    tall: u8,
+    address: u16,
+    value: u8,
+) -> Result<(), Refusal>
+    ensures { Write oam.old sets.old tall address value (number_of result)
         oam.new sets.new }
 {
-    let number = write_number(oam, sets, tall, address, value);
-    if number != 0 {
-        return number;
-    }
+    allow_write(oam, sets, tall, address, value)?;
     let old = old_y(oam, address);
     let new = new_y(oam, address, value);
     move_entry(sets, (address % 256 / 4) as u8, tall, old, new);
     memory::write_oam(oam, address, value);
-    number
+    Ok(())
 }
 
 // Whether a line is of the picture, and its number a set.
@@ -240,61 +204,44 @@ fn is_asked(sets: &[u64], line: u8) -> bool
     ensures { result ≡ is_asked sets.now line }
 {
     let at = line as usize;
-    if at >= Machine::HEIGHT {
-        return false;
-    }
-    is_set(sets[at])
+    at < Machine::HEIGHT && is_set(sets[at])
 }
 
-// The number of a question about a line.
-fn line_number(sets: &[u64], line: u8) -> u8
-    ensures { result ≡ line_number sets.now line }
+// The set of a line, for a question about it.
+fn set_of(sets: &[u64], line: u8) -> Result<u64, Refusal>
+    ensures number { number_of result ≡ line_number sets.now line }
+    ensures set { IfOk result (λ set. (set ≡ slice_index sets.now line) × (is_set set ≡ true)) }
 {
-    if sets.len() != Machine::HEIGHT {
-        return 1;
-    }
-    refusals::own(is_asked(sets, line), 4)
+    need(sets.len() == Machine::HEIGHT, Refusal::Length)?;
+    need(is_asked(sets, line), Refusal::Argument)?;
+    Ok(sets[line as usize])
 }
 
 // How many entries touch a line, by the bits of its set. Refused by 1, 4.
-pub fn count(sets: &[u64], line: u8) -> Counted
-    ensures { result ≡ count_of sets.now line }
+pub fn count(sets: &[u64], line: u8) -> Result<u8, Refusal>
+    ensures { counted result ≡ count_of sets.now line }
 {
-    let number = line_number(sets, line);
-    if number != 0 {
-        return Counted { number, count: 0 };
-    }
-    let set = sets[line as usize];
-    Counted {
-        number,
-        count: u64::count_ones(set) as u8,
-    }
+    let set = set_of(sets, line)?;
+    Ok(u64::count_ones(set) as u8)
 }
 
 // The lowest entry of a set, by its lowest bit.
-fn lowest_of(set: u64) -> Lowest
+fn lowest_of(set: u64) -> Option<u8>
     requires { is_set set ≡ true }
     ensures { result ≡ first_of (members set) }
 {
     if set == 0 {
-        return Lowest::Nothing;
+        return None;
     }
-    Lowest::Entry(u64::trailing_zeros(set) as u8)
+    Some(u64::trailing_zeros(set) as u8)
 }
 
 // The first entry that touches a line, by the lowest bit of its set. Refused by 1, 4.
-pub fn first(sets: &[u64], line: u8) -> Found
-    ensures { result ≡ first_on sets.now line }
+pub fn first(sets: &[u64], line: u8) -> Result<Option<u8>, Refusal>
+    ensures { found result ≡ first_on sets.now line }
 {
-    let number = line_number(sets, line);
-    if number != 0 {
-        return Found {
-            number,
-            first: Lowest::Nothing,
-        };
-    }
-    let first = lowest_of(sets[line as usize]);
-    Found { number, first }
+    let set = set_of(sets, line)?;
+    Ok(lowest_of(set))
 }
 
 // The ten lowest entries of a set, copied from OAM, over slots that keep what they had past the count.
@@ -303,45 +250,34 @@ fn select(oam: &[u8], set: u64, former: [SelectedSprite; 10]) -> Selection
     ensures { result ≡ selection_from oam.now set former }
 {
     let mut slots = former;
-    let mut count: usize = 0;
     let mut rest = set;
-    while count < 10 {
+    for k in 0..10 {
         if rest == 0 {
             break;
         }
         let index = u64::trailing_zeros(rest) as u8;
         let sprite = Sprite::at(oam, index as usize);
-        slots[count] = SelectedSprite { sprite, index };
-        count += 1;
+        slots[k] = SelectedSprite { sprite, index };
         rest -= bit(index);
     }
     Selection {
-        count: count as u8,
+        count: u64::count_ones(set).min(10) as u8,
         slots,
     }
 }
 
-// The number of a pick.
-fn pick_number(oam: &[u8], sets: &[u64], line: u8) -> u8
-    ensures { result ≡ pick_number oam.now sets.now line }
+// The terms of a pick.
+fn allow_pick(oam: &[u8], sets: &[u64], line: u8) -> Result<(), Refusal>
+    ensures { number_of result ≡ pick_number oam.now sets.now line }
 {
-    if !are_sized(oam, sets) {
-        return 1;
-    }
-    refusals::own(is_asked(sets, line), 4)
+    need(are_sized(oam, sets), Refusal::Length)?;
+    need(is_asked(sets, line), Refusal::Argument)
 }
 
 // The ten lowest entries of a line's set, in slots that are 0 past the count. Refused by 1, 4.
-pub fn pick(oam: &[u8], sets: &[u64], line: u8) -> Picked
-    ensures { result ≡ pick_from oam.now sets.now line }
+pub fn pick(oam: &[u8], sets: &[u64], line: u8) -> Result<Selection, Refusal>
+    ensures { picked result ≡ pick_from oam.now sets.now line }
 {
-    let number = pick_number(oam, sets, line);
-    let slots = sprite::blank();
-    if number != 0 {
-        let selection = Selection { count: 0, slots };
-        return Picked { number, selection };
-    }
-    let set = sets[line as usize];
-    let selection = select(oam, set, slots);
-    Picked { number, selection }
+    allow_pick(oam, sets, line)?;
+    Ok(select(oam, sets[line as usize], sprite::blank()))
 }

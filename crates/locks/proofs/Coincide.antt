@@ -3,8 +3,7 @@ use mathlib.Core.Path.{◌≡◌}
 use mathlib.Core.List.{List}
 use Prim.Native.Nat.{ℕ}
 use Rattle.state.specs.declared.State.{State}
-use Rattle.ports.specs.declared.Answer.{Answer}
-use Rattle.ports.specs.declared.ReadAnswer.{ReadAnswer}
+use Rattle.ports.specs.Answers.{Answer, ReadAnswer}
 use Rattle.ports.proofs.Answers.{same_answer}
 use Rattle.ports.proofs.Coincide.{one}
 use Rattle.locks.specs.Calls.{LockedWrite, locked_read}

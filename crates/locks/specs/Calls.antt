@@ -7,8 +7,7 @@ use Rattle.state.specs.declared.State.{State}
 use Rattle.memory.specs.Writes.{vram_written, oam_written}
 use Rattle.memory.specs.Reads.{oam_read}
 use Rattle.terms.specs.Numbers.{vram_number, locked_oam_number}
-use Rattle.ports.specs.declared.Answer.{Answer}
-use Rattle.ports.specs.declared.ReadAnswer.{ReadAnswer}
+use Rattle.ports.specs.Answers.{Answer, ReadAnswer}
 use Rattle.locks.specs.Closed.{closed}
 use Rattle.locks.specs.declared.Memory.{Memory}
 use Rattle.locks.specs.declared.Memory.TheVariants.{Vram, Oam}

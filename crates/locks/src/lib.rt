@@ -1,12 +1,14 @@
 // Request 12: writes and reads of VRAM and OAM behind the lock of Pan Docs, beside the old writes, which no mode stops. No call asks
 // anything of its caller. `ppu` hands them on.
+// Lent memory comes buffer by buffer, and in no struct: `&` and `&mut` tell of each what a call may do with it.
 #![tactic(auto)]
 
 ghost use Rattle.std.specs.Prelude.{◌≡◌};
+ghost use Rattle.ports.specs.Answers.{answered, read_answered};
 ghost use Rattle.locks.specs.Closed.{closed};
 ghost use Rattle.locks.specs.Calls.{LockedVramWrite, LockedOamWrite, seen, locked_vram_read, locked_oam_read};
 
-use ports::{Answer, ReadAnswer};
+use refusals::Refusal;
 use state::State;
 
 // What can be closed.
@@ -36,33 +38,25 @@ pub fn is_closed(memory: Memory, s: State) -> bool
 }
 
 // A VRAM write that a closed VRAM takes and drops. Refused by 1, 2.
-pub fn locked_write_vram(s: State, vram: &mut [u8], address: u16, value: u8) -> Answer
-    ensures { LockedVramWrite s vram.old address value result vram.new }
+pub fn locked_write_vram(s: &State, vram: &mut [u8], address: u16, value: u8) -> Result<(), Refusal>
+    ensures { LockedVramWrite s.now vram.old address value (answered result s.now) vram.new }
 {
-    let number = terms::vram_number(s, vram);
-    if number != 0 {
-        return Answer { number, state: s };
+    terms::vram(*s, vram)?;
+    if !is_closed(Memory::Vram, *s) {
+        memory::write_vram(vram, s.regs.vbk, address, value);
     }
-    if is_closed(Memory::Vram, s) {
-        return Answer { number, state: s };
-    }
-    memory::write_vram(vram, s.regs.vbk, address, value);
-    Answer { number, state: s }
+    Ok(())
 }
 
 // An OAM write that a closed OAM takes and drops. Refused by 1, 2, 4.
-pub fn locked_write_oam(s: State, oam: &mut [u8], address: u16, value: u8) -> Answer
-    ensures { LockedOamWrite s oam.old address value result oam.new }
+pub fn locked_write_oam(s: &State, oam: &mut [u8], address: u16, value: u8) -> Result<(), Refusal>
+    ensures { LockedOamWrite s.now oam.old address value (answered result s.now) oam.new }
 {
-    let number = terms::locked_oam_number(s, oam, address);
-    if number != 0 {
-        return Answer { number, state: s };
+    terms::locked_oam(*s, oam, address)?;
+    if !is_closed(Memory::Oam, *s) {
+        memory::write_oam(oam, address, value);
     }
-    if is_closed(Memory::Oam, s) {
-        return Answer { number, state: s };
-    }
-    memory::write_oam(oam, address, value);
-    Answer { number, state: s }
+    Ok(())
 }
 
 // What a read sees of a byte.
@@ -76,41 +70,19 @@ fn seen(memory: Memory, s: State, byte: u8) -> u8
 }
 
 // The byte of VRAM at the address modulo 8,192 of the present bank; FF from a closed VRAM. Refused by 1, 2.
-pub fn locked_read_vram(s: State, vram: &[u8], address: u16) -> ReadAnswer
-    ensures { result ≡ locked_vram_read s vram.now address }
+pub fn locked_read_vram(s: &State, vram: &[u8], address: u16) -> Result<u8, Refusal>
+    ensures { read_answered result s.now ≡ locked_vram_read s.now vram.now address }
 {
-    let number = terms::vram_number(s, vram);
-    if number != 0 {
-        return ReadAnswer {
-            number,
-            value: 0,
-            state: s,
-        };
-    }
+    terms::vram(*s, vram)?;
     let byte = tiles::read_vram_banked(vram, s.regs.vbk, address);
-    ReadAnswer {
-        number,
-        value: seen(Memory::Vram, s, byte),
-        state: s,
-    }
+    Ok(seen(Memory::Vram, *s, byte))
 }
 
 // The byte of OAM at the low byte of the address; FF from a closed OAM. Refused by 1, 2, 4.
-pub fn locked_read_oam(s: State, oam: &[u8], address: u16) -> ReadAnswer
-    ensures { result ≡ locked_oam_read s oam.now address }
+pub fn locked_read_oam(s: &State, oam: &[u8], address: u16) -> Result<u8, Refusal>
+    ensures { read_answered result s.now ≡ locked_oam_read s.now oam.now address }
 {
-    let number = terms::locked_oam_number(s, oam, address);
-    if number != 0 {
-        return ReadAnswer {
-            number,
-            value: 0,
-            state: s,
-        };
-    }
+    terms::locked_oam(*s, oam, address)?;
     let byte = memory::read_oam(oam, address);
-    ReadAnswer {
-        number,
-        value: seen(Memory::Oam, s, byte),
-        state: s,
-    }
+    Ok(seen(Memory::Oam, *s, byte))
 }

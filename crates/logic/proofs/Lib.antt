@@ -7,3 +7,5 @@ pub mod Both
 pub mod Every
 -- an element of a list that is made element by element
 pub mod Mapped
+-- that test by the library's word
+pub mod Listed

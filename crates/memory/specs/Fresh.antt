@@ -1,5 +1,5 @@
 -- 01, "Start and switching off": the fresh state of a machine, and the lent memory after a start.
-use Rattle.std.specs.Prelude.{◌≡◌, Bool, false, not, cond, ◌&&◌, length, replicate}
+use Rattle.std.specs.Prelude.{◌≡◌, Bool, false, not, cond, ◌&&◌, length, replicate, None}
 use Rattle.hardware.specs.Screen.{last_line}
 use Rattle.hardware.specs.Tables.{Tables, tables}
 use Rattle.hardware.specs.declared.Machine.{Machine}
@@ -10,7 +10,6 @@ use Rattle.fifo.specs.Background.{bg_fresh}
 use Rattle.fifo.specs.Sprites.{sprite_fresh}
 use Rattle.state.specs.declared.Registers.{Registers}
 use Rattle.state.specs.declared.Palettes.{Palettes}
-use Rattle.state.specs.declared.Waiting.TheVariants.{Nothing}
 use Rattle.state.specs.declared.Pipe.{Pipe}
 use Rattle.state.specs.declared.Beam.{Beam}
 use Rattle.state.specs.declared.State.{State}
@@ -51,7 +50,7 @@ fresh_palettes cgb =
 abbrev pub fresh_pipe : Pipe
 fresh_pipe =
     record {
-      fetcher = record { delay = 0; column = 0; row = replicate 8 0; waiting = Nothing };
+      fetcher = record { delay = 0; column = 0; row = replicate 8 0; waiting = None };
       bg = bg_fresh;
       obj = sprite_fresh;
       window = false;

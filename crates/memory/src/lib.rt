@@ -1,4 +1,5 @@
 // The lent memory: the start, writes to VRAM and OAM, reads of OAM.
+// Lent memory comes buffer by buffer, and in no struct: `&` and `&mut` tell of each what a call may do with it.
 #![tactic(auto)]
 
 ghost use Rattle.std.specs.Prelude.{◌≡◌, ◌<◌, ◌≤◌, ◌%◌, length};
@@ -12,7 +13,7 @@ use colors::PaletteSet;
 use fifo::{BgFifo, SpriteFifo};
 use hardware::Machine;
 use sprite::Selection;
-use state::{Beam, Fetcher, Palettes, Pipe, Registers, State, Waiting};
+use state::{Beam, Fetcher, Palettes, Pipe, Registers, State};
 
 // Colour mode holds only if the device is not DMG.
 fn in_colour(machine: Machine) -> bool
@@ -68,7 +69,7 @@ fn fresh_pipe() -> Pipe
         delay: 0,
         column: 0,
         row: [0; 8],
-        waiting: Waiting::Nothing,
+        waiting: None,
     };
     let bg = BgFifo::fresh();
     let obj = SpriteFifo::fresh();

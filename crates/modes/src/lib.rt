@@ -3,71 +3,78 @@
 
 ghost use Rattle.std.specs.Prelude.{◌≡◌, ◌<◌, length};
 ghost use Rattle.hardware.specs.Tables.{oam_bytes};
-ghost use Rattle.state.specs.With.{with_mode, with_coincidence};
-ghost use Rattle.modes.specs.Modes.{stands, begins, scans, renders, in_mode, scanning, rendering, resting, entered, searched};
+ghost use Rattle.state.specs.With.{mode_of, with_mode, with_coincidence};
+ghost use Rattle.modes.specs.Modes.{mode_number, stands, begins, scans, renders, in_mode, rendering, resting, entered, searched};
 ghost use Rattle.modes.specs.Modes.{rest_level, scan_asks, scan_level, mode_level, early_level, level_of, compared_registers};
 
 use hardware::Machine;
 use state::{Beam, Pipe, Registers, State};
 
+// The modes, in the order of their numbers in STAT.
+#[derive(Clone, Copy, PartialEq, Eq)]
+enum Mode {
+    HBlank,
+    VBlank,
+    Search,
+    Draw,
+}
+
+impl Mode {
+    // The mode that STAT holds.
+    fn of(stat: u8) -> Self
+        ensures { mode_number result ≡ mode_of stat }
+    {
+        match stat % 4 {
+            0 => Mode::HBlank,
+            1 => Mode::VBlank,
+            2 => Mode::Search,
+            _ => Mode::Draw,
+        }
+    }
+}
+
 // Whether the beam stands at a line and a cycle.
 pub fn stands_at(b: Beam, line: u8, cycle: u16) -> bool
     ensures { result ≡ stands b line cycle }
 {
-    if b.line != line {
-        return false;
-    }
-    b.cycle == cycle
+    b.line == line && b.cycle == cycle
 }
 
 // Whether a mode can begin here, or a line be searched: else neither is tried.
 pub fn can_begin(b: Beam) -> bool
     ensures { result ≡ begins b }
 {
-    if b.cycle == 80 {
-        return true;
-    }
-    if b.cycle == 4 {
-        return true;
-    }
-    b.cycle == 0
+    matches!(b.cycle, 80 | 4 | 0)
 }
 
 // Whether mode 2 begins.
+#[tactic(auto, unfolding(crate::specs::Modes::scans))]
 fn does_scan(b: Beam) -> bool
     ensures { result ≡ scans b }
 {
-    if b.cycle == 0 {
-        return (b.line as usize) < Machine::HEIGHT;
-    }
-    if b.turned {
-        return false;
-    }
-    stands_at(b, 0, 4)
+    (b.line as usize) < Machine::HEIGHT && b.cycle == 0 || stands_at(b, 0, 4) && !b.turned
 }
 
 // Whether mode 3 begins.
+#[tactic(auto, unfolding(crate::specs::Modes::renders))]
 fn does_render(b: Beam) -> bool
     ensures { result ≡ renders b }
 {
-    if b.line as usize >= Machine::HEIGHT {
-        return false;
-    }
-    b.cycle == 80
+    (b.line as usize) < Machine::HEIGHT && b.cycle == 80
 }
 
 // STAT with another mode.
-fn with_mode(stat: u8, mode: u8) -> u8
-    requires { (stat < 128) × (mode < 4) }
-    ensures { result ≡ with_mode stat mode }
+fn with_mode(stat: u8, mode: Mode) -> u8
+    requires { stat < 128 }
+    ensures { result ≡ with_mode stat (mode_number mode) }
 {
-    stat / 4 * 4 + mode
+    stat / 4 * 4 + mode as u8
 }
 
 // The state with a mode, a pipe and a mode 3 end.
-fn in_mode(s: State, mode: u8, p: Pipe, end: u16) -> State
-    requires { (s.regs.stat < 128) × (mode < 4) }
-    ensures { result ≡ in_mode s mode p end }
+fn in_mode(s: State, mode: Mode, p: Pipe, end: u16) -> State
+    requires { s.regs.stat < 128 }
+    ensures { result ≡ in_mode s (mode_number mode) p end }
 {
     let stat = with_mode(s.regs.stat, mode);
     let mut n = s;
@@ -75,13 +82,6 @@ fn in_mode(s: State, mode: u8, p: Pipe, end: u16) -> State
     n.pipe = p;
     n.beam.end = end;
     n
-}
-
-// The pipe where mode 2 begins: as it is.
-fn start_scanning(p: Pipe) -> Pipe
-    ensures { result ≡ scanning p }
-{
-    p
 }
 
 // The pipe where mode 3 begins.
@@ -104,21 +104,21 @@ fn start_resting(p: Pipe) -> Pipe
 }
 
 // The state in the mode that begins here, if one does.
+#[tactic(auto, unfolding(crate::specs::Modes::entered))]
 pub fn enter_mode(s: State) -> State
     requires { s.regs.stat < 128 }
     ensures { result ≡ entered s }
 {
     if does_scan(s.beam) {
-        let p = start_scanning(s.pipe);
-        return in_mode(s, 2, p, 0);
+        return in_mode(s, Mode::Search, s.pipe, 0);
     }
     if does_render(s.beam) {
         let p = start_rendering(s.regs.scx, s.pipe);
-        return in_mode(s, 3, p, s.beam.end);
+        return in_mode(s, Mode::Draw, p, s.beam.end);
     }
     if stands_at(s.beam, Machine::VBLANK_LINE, 4) {
         let p = start_resting(s.pipe);
-        return in_mode(s, 1, p, 0);
+        return in_mode(s, Mode::VBlank, p, 0);
     }
     s
 }
@@ -127,70 +127,44 @@ pub fn enter_mode(s: State) -> State
 fn rest_level(s: State) -> bool
     ensures { result ≡ rest_level s }
 {
-    if wrap::bit(s.regs.stat, 4) {
-        return true;
-    }
-    if !s.machine.dmg {
-        return false;
-    }
-    if !stands_at(s.beam, Machine::VBLANK_LINE, 4) {
-        return false;
-    }
-    wrap::bit(s.regs.stat, 5)
+    wrap::bit(s.regs.stat, 4)
+        || s.machine.dmg && stands_at(s.beam, Machine::VBLANK_LINE, 4) && wrap::bit(s.regs.stat, 5)
 }
 
 // Whether mode 2 asks at this cycle: at 0 if not DMG, at 4 if DMG or on line 0.
 fn scan_asks(s: State) -> bool
     ensures { result ≡ scan_asks s }
 {
-    if s.beam.cycle == 0 {
-        return !s.machine.dmg;
-    }
-    if s.beam.cycle != 4 {
-        return false;
-    }
-    if s.machine.dmg {
-        return true;
-    }
-    s.beam.line == 0
+    s.beam.cycle == 0 && !s.machine.dmg || s.beam.cycle == 4 && (s.machine.dmg || s.beam.line == 0)
 }
 
 // What mode 2 asks.
 fn scan_level(s: State) -> bool
     ensures { result ≡ scan_level s }
 {
-    if !scan_asks(s) {
-        return false;
-    }
-    wrap::bit(s.regs.stat, 5)
+    scan_asks(s) && wrap::bit(s.regs.stat, 5)
 }
 
 // The STAT level by the mode held.
+#[tactic(auto, unfolding(crate::specs::Modes::mode_level))]
 pub fn mode_level(s: State) -> bool
     ensures { result ≡ mode_level s }
 {
-    let mode = s.regs.stat % 4;
-    if mode == 0 {
-        return wrap::bit(s.regs.stat, 3);
+    match Mode::of(s.regs.stat) {
+        Mode::HBlank => wrap::bit(s.regs.stat, 3),
+        Mode::VBlank => rest_level(s),
+        Mode::Search => scan_level(s),
+        Mode::Draw => false,
     }
-    if mode == 1 {
-        return rest_level(s);
-    }
-    if mode == 2 {
-        return scan_level(s);
-    }
-    false
 }
 
 // Mode 2 at cycle 4 selects the sprites of the line.
+#[tactic(auto, unfolding(crate::specs::Modes::searched))]
 pub fn search(oam: &[u8], s: State) -> State
     requires { length oam.now ≡ oam_bytes }
     ensures { result ≡ searched oam.now s }
 {
-    if s.regs.stat % 4 != 2 {
-        return s;
-    }
-    if s.beam.cycle != 4 {
+    if Mode::of(s.regs.stat) != Mode::Search || s.beam.cycle != 4 {
         return s;
     }
     let slots = s.selection.slots;
@@ -204,32 +178,17 @@ pub fn search(oam: &[u8], s: State) -> State
 fn early_level(s: State) -> bool
     ensures { result ≡ early_level s }
 {
-    if s.machine.dmg {
-        return false;
-    }
-    if !stands_at(s.beam, Machine::VBLANK_LINE, 0) {
-        return false;
-    }
-    if wrap::bit(s.regs.stat, 4) {
-        return true;
-    }
-    wrap::bit(s.regs.stat, 5)
+    !s.machine.dmg
+        && stands_at(s.beam, Machine::VBLANK_LINE, 0)
+        && (wrap::bit(s.regs.stat, 4) || wrap::bit(s.regs.stat, 5))
 }
 
 // The STAT level: by the mode held, at (144,0), or by LY = LYC.
+#[tactic(auto, unfolding(crate::specs::Modes::level_of))]
 pub fn level_of(held: bool, s: State) -> bool
     ensures { result ≡ level_of held s }
 {
-    if held {
-        return true;
-    }
-    if early_level(s) {
-        return true;
-    }
-    if s.regs.ly != s.regs.lyc {
-        return false;
-    }
-    wrap::bit(s.regs.stat, 6)
+    held || early_level(s) || s.regs.ly == s.regs.lyc && wrap::bit(s.regs.stat, 6)
 }
 
 // STAT with its coincidence bit.

@@ -1,12 +1,12 @@
 -- Laws of the corruptions: OAM keeps its length, a row holds the words stored in it, and bytes outside it stay.
-use mathlib.Core.Path.{◌≡◌, refl, ◌∙◌}
-use mathlib.Core.Bool.{◌||◌}
+use mathlib.Core.Path.{◌≡◌, refl, ap, ◌∙◌}
+use mathlib.Core.Bool.{cond, ◌||◌}
 use mathlib.Core.List.{List}
 use mathlib.Core.Logic.{◌≢◌}
 use Prim.Native.Nat.{ℕ, ◌+◌, ◌/◌, ◌%◌, ◌<◌, ◌≤◌}
 use native.Mathlib.Nat.{div-add-mod'}
 use native.Mathlib.Omega.{arith}
-use borrow.Author.Tests.{eqb-true}
+use borrow.Author.Tests.{eqb-true, eqb-false}
 use lib.Dec.{eqb, ltb}
 use lib.ListN.{length, get_or, set, length-set}
 use lib.Seq.{get_or-set_same, get_or-set_other}
@@ -19,6 +19,14 @@ use Rattle.oam_bug.specs.Corruption.{corrupted_row, write_corrupted, read_corrup
 pub row_below : (mode cycle : ℕ) → (mode ≡ 2 → (4 ≤ cycle) × (cycle ≤ 83)) → corrupted_row mode cycle < oam_rows
 row_below mode cycle h =
     by_test (λ (r : ℕ). r < oam_rows) (eqb mode 2) (λ e. let b = h (eqb-true mode 2 e) in omega arith) (λ e. omega arith)
+
+-- ---- a row corrupted by a rule, that gives a word
+
+pub by_rule : (oam new : List ℕ) (r v : ℕ) → (r ≡ 0 → new ≡ oam)
+    → (0 < r → (w : ℕ) × (w ≡ v) × (new ≡ row_from oam r w)) → new ≡ cond (eqb r 0) oam (row_from oam r v)
+by_rule oam new r v none others =
+    by_test (λ (l : List ℕ). new ≡ l) (eqb r 0) (λ e. none (eqb-true r 0 e))
+    (λ e. let p = others (omega (arith, eqb-false r 0 e)) in p.2 ∙ ap (row_from oam r) p.1)
 
 -- ---- length
 

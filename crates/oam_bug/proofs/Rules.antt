@@ -1,12 +1,15 @@
 -- Laws of the kinds of corruption: the rule of each, and the length of OAM after it.
 use mathlib.Core.Path.{◌≡◌, refl}
+use mathlib.Core.Bool.{true}
 use mathlib.Core.List.{List}
 use Prim.Native.Nat.{ℕ}
 use lib.Dec.{eqb}
 use lib.ListN.{length}
 use Rattle.logic.proofs.Tests.{by_test}
 use Rattle.oam_bug.specs.Corruption.{write_corrupted, read_corrupted, read_write_corrupted}
-use Rattle.oam_bug.specs.Kinds.{corrupted}
+use Rattle.oam_bug.specs.Kinds.{is_kind, kind_number, corrupted}
+use Rattle.oam_bug.specs.declared.Kind.{Kind}
+use Rattle.oam_bug.specs.declared.Kind.TheVariants.{Write, Read, ReadWrite}
 use Rattle.oam_bug.proofs.Rows.{AsLong, length_write, length_read, length_read_write}
 
 -- a kind does what a rule does
@@ -21,6 +24,12 @@ one_by_read oam r = refl
 
 pub two_by_read_write : By 2 read_write_corrupted
 two_by_read_write oam r = refl
+
+-- the number of a kind is one that there is
+pub number_known : (kind : Kind) → is_kind (kind_number kind) ≡ true
+number_known Write = refl
+number_known Read = refl
+number_known ReadWrite = refl
 
 -- OAM keeps its length, whatever the kind
 pub length_corrupted : (kind : ℕ) (l : List ℕ) (r : ℕ) → length (corrupted kind l r) ≡ length l

@@ -1,10 +1,23 @@
 -- The kinds of access that corrupt OAM, by their numbers: which there are, and the rule of each.
-use Rattle.std.specs.Prelude.{ℕ, Bool, cond, List, eqb, leb}
+use Rattle.std.specs.Prelude.{◌≡◌, ℕ, Bool, false, cond, List, eqb, leb, Result, MatchResult}
 use Rattle.oam_bug.specs.Corruption.{write_corrupted, read_corrupted, read_write_corrupted}
+use Rattle.oam_bug.specs.declared.Kind.{Kind}
+use Rattle.oam_bug.specs.declared.Kind.TheVariants.{Write, Read, ReadWrite}
+use Rattle.oam_bug.specs.declared.UnknownKind.{UnknownKind}
 
 -- 0 a write, 1 a read, 2 a read and a write together
 abbrev pub is_kind : ℕ → Bool
 is_kind kind = leb kind 2
+
+-- the number of a kind
+abbrev pub kind_number : Kind → ℕ
+kind_number Write = 0
+kind_number Read = 1
+kind_number ReadWrite = 2
+
+-- the kind of a number, or that there is none of that number
+abbrev pub Numbers : ℕ → Result Kind UnknownKind → Type 0
+Numbers number r = MatchResult r (λ kind. kind_number kind ≡ number) (λ none. is_kind number ≡ false)
 
 -- what an access of a kind does at row r; there are no others, which would do nothing
 abbrev pub corrupted : ℕ → List ℕ → ℕ → List ℕ

@@ -1,5 +1,5 @@
 -- Pan Docs, "OAM Corruption Bug": OAM as 20 rows of four words, the low byte of a word first.
-use Rattle.std.specs.Prelude.{ℕ, ◌+◌, ◌-◌, ◌*◌, ◌/◌, ◌%◌, List, get_or, set}
+use Rattle.std.specs.Prelude.{ℕ, ◌+◌, ◌-◌, ◌*◌, ◌/◌, ◌%◌, List, [], ◌∷◌, get_or, set}
 
 -- how many rows OAM has
 abbrev pub oam_rows : ℕ
@@ -20,6 +20,10 @@ word_place r k = 8 * r + 2 * k
 -- word k of row r
 abbrev pub word_of : List ℕ → ℕ → ℕ → ℕ
 word_of oam r k = word oam (word_place r k)
+
+-- the four words of row r
+abbrev pub words_of : List ℕ → ℕ → List ℕ
+words_of oam r = word_of oam r 0 ∷ word_of oam r 1 ∷ word_of oam r 2 ∷ word_of oam r 3 ∷ []
 
 -- four words stored as row r
 unfoldable pub with_row : List ℕ → ℕ → ℕ → ℕ → ℕ → ℕ → List ℕ

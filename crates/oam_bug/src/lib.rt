@@ -1,15 +1,15 @@
 // The OAM corruption of mode 2: 20 rows of four words.
 #![tactic(auto)]
 
-ghost use Rattle.std.specs.Prelude.{◌≡◌, true, ◌+◌, ◌*◌, ◌<◌, ◌≤◌, length};
+ghost use Rattle.std.specs.Prelude.{◌≡◌, ℕ, ◌-◌, ◌<◌, ◌≤◌, length, get_or};
 ghost use Rattle.hardware.specs.Tables.{oam_bytes};
-ghost use Rattle.oam_bug.specs.Words.{oam_rows, word_place, word_of, with_word, with_row, row_from, row_copied};
+ghost use Rattle.oam_bug.specs.Words.{oam_rows, word_place, word_of, words_of, with_word, with_row, row_from, row_copied};
 ghost use Rattle.oam_bug.specs.Corruption.{corrupted_row, write_word, read_word, read_write_word};
 ghost use Rattle.oam_bug.specs.Corruption.{before_corrupted, spread, around_corrupted};
 ghost use Rattle.oam_bug.specs.Corruption.{write_corrupted, read_corrupted, read_write_corrupted};
-ghost use Rattle.oam_bug.specs.Kinds.{is_kind, corrupted};
+ghost use Rattle.oam_bug.specs.Kinds.{is_kind, kind_number, Numbers, corrupted};
 
-// The row that an access at a cycle of the line corrupts.
+// The row that an access at a cycle of the line corrupts. The mode is its number in STAT, of which the clauses of callers speak.
 pub fn corrupted_row(mode: u8, cycle: u16) -> u8
     requires { mode ≡ 2 → (4 ≤ cycle) × (cycle ≤ 83) }
     ensures { result ≡ corrupted_row mode cycle }
@@ -42,20 +42,13 @@ fn read_write_word(a: u16, b: u16, c: u16, d: u16) -> u16
     (b & (a | c | d)) | (a & c & d)
 }
 
-// A word from its two bytes.
-fn word_of(low: u8, high: u8) -> u16
-    ensures { result ≡ low + high * 256 }
-{
-    low as u16 + high as u16 * 256
-}
-
 // Word k of a row.
 fn word_at(oam: &[u8], row: u8, k: u8) -> u16
     requires { (length oam.now ≡ oam_bytes) × (row < oam_rows) × (k < 4) }
     ensures { result ≡ word_of oam.now row k }
 {
     let at = 8 * row as usize + 2 * k as usize;
-    word_of(oam[at], oam[at + 1])
+    u16::from_le_bytes([oam[at], oam[at + 1]])
 }
 
 // Stores word k of a row.
@@ -64,15 +57,30 @@ fn put_word(oam: &mut [u8], row: u8, k: u8, w: u16)
     ensures { oam.new ≡ with_word oam.old (word_place row k) w }
 {
     let at = 8 * row as usize + 2 * k as usize;
-    oam[at] = (w % 256) as u8;
-    oam[at + 1] = (w / 256) as u8;
+    let [low, high] = w.to_le_bytes();
+    oam[at] = low;
+    oam[at + 1] = high;
+}
+
+// The four words of a row.
+fn row_at(oam: &[u8], row: u8) -> [u16; 4]
+    requires { (length oam.now ≡ oam_bytes) × (row < oam_rows) }
+    ensures { result ≡ words_of oam.now row }
+{
+    [
+        word_at(oam, row, 0),
+        word_at(oam, row, 1),
+        word_at(oam, row, 2),
+        word_at(oam, row, 3),
+    ]
 }
 
 // Stores the four words of a row.
-fn put_row(oam: &mut [u8], row: u8, v: u16, w: u16, x: u16, y: u16)
+fn put_row(oam: &mut [u8], row: u8, words: [u16; 4])
     requires { (length oam.old ≡ oam_bytes) × (row < oam_rows) }
-    ensures { oam.new ≡ with_row oam.old row v w x y }
+    ensures { oam.new ≡ with_row oam.old row (get_or words 0 0) (get_or words 1 0) (get_or words 2 0) (get_or words 3 0) }
 {
+    let [v, w, x, y] = words;
     put_word(oam, row, 0, v);
     put_word(oam, row, 1, w);
     put_word(oam, row, 2, x);
@@ -84,10 +92,8 @@ fn row_from(oam: &mut [u8], row: u8, first: u16)
     requires { (length oam.old ≡ oam_bytes) × (row < oam_rows) × (0 < row) }
     ensures { oam.new ≡ row_from oam.old row first }
 {
-    let second = word_at(oam, row - 1, 1);
-    let third = word_at(oam, row - 1, 2);
-    let fourth = word_at(oam, row - 1, 3);
-    put_row(oam, row, first, second, third, fourth);
+    let [_, second, third, fourth] = row_at(oam, row - 1);
+    put_row(oam, row, [first, second, third, fourth]);
 }
 
 // Copies a row over another.
@@ -95,11 +101,26 @@ fn copy_row(oam: &mut [u8], from: u8, to: u8)
     requires { (length oam.old ≡ oam_bytes) × (from < oam_rows) × (to < oam_rows) }
     ensures { oam.new ≡ row_copied oam.old from to }
 {
-    let first = word_at(oam, from, 0);
-    let second = word_at(oam, from, 1);
-    let third = word_at(oam, from, 2);
-    let fourth = word_at(oam, from, 3);
-    put_row(oam, to, first, second, third, fourth);
+    let words = row_at(oam, from);
+    put_row(oam, to, words);
+}
+
+// Corrupts a row, unless it is row 0: a rule gives its first word, the row before the other three.
+fn corrupt_row<F: Fn(u16, u16, u16) -> u16>(oam: &mut [u8], row: u8, rule: F)
+    requires bytes { (length oam.old ≡ oam_bytes) × (row < oam_rows) }
+    requires callable { F.IsAlwaysCallable rule }
+    ensures first { row ≡ 0 → oam.new ≡ oam.old }
+    ensures others { 0 < row → (w : ℕ)
+        × F.post rule (word_of oam.old row 0) (word_of oam.old (row - 1) 0) (word_of oam.old (row - 1) 2) w
+        × (oam.new ≡ row_from oam.old row w) }
+{
+    if row == 0 {
+        return;
+    }
+    let a = word_at(oam, row, 0);
+    let b = word_at(oam, row - 1, 0);
+    let c = word_at(oam, row - 1, 2);
+    row_from(oam, row, rule(a, b, c));
 }
 
 // A write while OAM is being searched.
@@ -107,13 +128,7 @@ fn corrupt_write(oam: &mut [u8], row: u8)
     requires { (length oam.old ≡ oam_bytes) × (row < oam_rows) }
     ensures { oam.new ≡ write_corrupted oam.old row }
 {
-    if row == 0 {
-        return;
-    }
-    let a = word_at(oam, row, 0);
-    let b = word_at(oam, row - 1, 0);
-    let c = word_at(oam, row - 1, 2);
-    row_from(oam, row, write_word(a, b, c));
+    corrupt_row(oam, row, write_word);
 }
 
 // A read while OAM is being searched.
@@ -121,13 +136,7 @@ fn corrupt_read(oam: &mut [u8], row: u8)
     requires { (length oam.old ≡ oam_bytes) × (row < oam_rows) }
     ensures { oam.new ≡ read_corrupted oam.old row }
 {
-    if row == 0 {
-        return;
-    }
-    let a = word_at(oam, row, 0);
-    let b = word_at(oam, row - 1, 0);
-    let c = word_at(oam, row - 1, 2);
-    row_from(oam, row, read_word(a, b, c));
+    corrupt_row(oam, row, read_word);
 }
 
 // Corrupts the first word of the row before.
@@ -156,10 +165,7 @@ fn corrupt_around(oam: &mut [u8], row: u8)
     requires { (length oam.old ≡ oam_bytes) × (row < oam_rows) }
     ensures { oam.new ≡ around_corrupted oam.old row }
 {
-    if row < 4 {
-        return;
-    }
-    if 18 < row {
+    if row < 4 || 18 < row {
         return;
     }
     corrupt_before(oam, row);
@@ -175,21 +181,49 @@ fn corrupt_read_write(oam: &mut [u8], row: u8)
     corrupt_read(oam, row);
 }
 
-// Whether there is a corruption of a kind: 0 a write, 1 a read, 2 a read and a write in one cycle.
+// An access that corrupts OAM: a write, a read, or a read and a write in one cycle.
+#[derive(Clone, Copy, Debug, PartialEq, Eq)]
+pub enum Kind {
+    Write,
+    Read,
+    ReadWrite,
+}
+
+// A number of no kind.
+#[derive(Clone, Copy, Debug, PartialEq, Eq)]
+pub struct UnknownKind;
+
+impl TryFrom<u8> for Kind {
+    type Error = UnknownKind;
+
+    ghost try_from_gives = { Numbers };
+
+    // The kind of a number: 0 a write, 1 a read, 2 a read and a write in one cycle.
+    fn try_from(number: u8) -> Result<Self, UnknownKind> {
+        match number {
+            0 => Ok(Kind::Write),
+            1 => Ok(Kind::Read),
+            2 => Ok(Kind::ReadWrite),
+            _ => Err(UnknownKind),
+        }
+    }
+}
+
+// Whether a number is that of a kind.
 pub fn is_kind(kind: u8) -> bool
     ensures { result ≡ is_kind kind }
 {
-    kind <= 2
+    Kind::try_from(kind).is_ok()
 }
 
 // The corruption of a kind.
-pub fn corrupt(oam: &mut [u8], row: u8, kind: u8)
-    requires { (length oam.old ≡ oam_bytes) × (row < oam_rows) × (is_kind kind ≡ true) }
-    ensures { oam.new ≡ corrupted kind oam.old row }
+pub fn corrupt(oam: &mut [u8], row: u8, kind: Kind)
+    requires { (length oam.old ≡ oam_bytes) × (row < oam_rows) }
+    ensures { oam.new ≡ corrupted (kind_number kind) oam.old row }
 {
     match kind {
-        0 => corrupt_write(oam, row),
-        1 => corrupt_read(oam, row),
-        _ => corrupt_read_write(oam, row),
+        Kind::Write => corrupt_write(oam, row),
+        Kind::Read => corrupt_read(oam, row),
+        Kind::ReadWrite => corrupt_read_write(oam, row),
     }
 }

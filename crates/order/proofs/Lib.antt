@@ -1,5 +1,5 @@
 -- The laws of `order` that belong to no one function.
--- a list tested from the front, for the loops over rows, queues and slots
+-- the pixels queued in a ring, tested by their places
 pub mod Tested
 -- the clauses of a state in order as facts, and back
 pub mod Clauses

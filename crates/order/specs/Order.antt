@@ -1,6 +1,6 @@
 -- 01, "Lent memory and the state": when a state is in order, clause by clause. Only what is live counts: what is selected,
 -- queued or fetched; slots past a count and outside a queue may hold anything. Here as a test; Fine says the same as facts.
-use Rattle.std.specs.Prelude.{ℕ, ◌%◌, Bool, true, not, ◌&&◌, ◌||◌, ◌≡◌, List, eqb, ltb, leb, take}
+use Rattle.std.specs.Prelude.{ℕ, ◌%◌, Bool, true, not, ◌&&◌, ◌||◌, ◌≡◌, List, eqb, ltb, leb, take, Option, Some, None}
 use Rattle.hardware.specs.Screen.{width, height, line_cycles, frame_lines}
 use Rattle.sprite.specs.declared.Selection.{Selection}
 use Rattle.sprite.specs.declared.SelectedSprite.{SelectedSprite}
@@ -13,8 +13,6 @@ use Rattle.fifo.specs.declared.SpriteFifo.{SpriteFifo}
 use Rattle.fifo.specs.declared.SpriteFifoPixel.{SpriteFifoPixel}
 use Rattle.state.specs.declared.Registers.{Registers}
 use Rattle.state.specs.declared.Palettes.{Palettes}
-use Rattle.state.specs.declared.Waiting.{Waiting}
-use Rattle.state.specs.declared.Waiting.TheVariants.{Row, Nothing}
 use Rattle.state.specs.declared.Fetcher.{Fetcher}
 use Rattle.state.specs.declared.Beam.{Beam}
 use Rattle.state.specs.Shape.{Shaped}
@@ -51,9 +49,9 @@ colour_order colour = leb colour 3
 abbrev pub row_order : List ℕ → Bool
 row_order row = every colour_order row
 
-abbrev pub waiting_order : Waiting → List ℕ → Bool
-waiting_order (Row attribute) row = row_order row
-waiting_order Nothing row = true
+abbrev pub waiting_order : {A : Type 0} → Option A → List ℕ → Bool
+waiting_order (Some attribute) row = row_order row
+waiting_order None row = true
 
 abbrev pub fetcher_order : Fetcher → Bool
 fetcher_order f = leb f.delay 8 && waiting_order f.waiting f.row

@@ -1,5 +1,5 @@
 -- Laws of the request's length: OAM has its bytes exactly if the request has two more.
-use mathlib.Core.Path.{◌≡◌, refl, sym, ◌∙◌}
+use mathlib.Core.Path.{◌≡◌, refl}
 use mathlib.Core.List.{List}
 use Prim.Native.Nat.{ℕ, ◌+◌, ◌-◌, ◌≤◌}
 use native.Mathlib.Omega.{arith}
@@ -10,8 +10,7 @@ use lib.Seq.{length-take-le}
 use Rattle.logic.proofs.Tests.{by_test}
 use Rattle.refusals.specs.Ladder.{lowest}
 use Rattle.hardware.specs.Tables.{oam_bytes}
-use Rattle.sprite.specs.Pick.{pick_number, pick_of, refused_pick}
-use Rattle.sprite.specs.declared.Picked.{Picked}
+use Rattle.sprite.specs.Pick.{pick_number, pick_of, refused_pick, Picked}
 use Rattle.picks.specs.Request.{request_bytes, answer_to}
 
 -- another length of OAM is refused, whatever the line and the height
@@ -20,17 +19,13 @@ unfolding pick_of pick_number lowest
 refused oam line tall h = rw (ne_eqb _ _ h) refl
 
 -- so is another length of the request
-short : (s : List ℕ) → (length s ≡ request_bytes → ⊥) → answer_to s ≡ refused_pick 1
+pub short : (s : List ℕ) → (length s ≡ request_bytes → ⊥) → answer_to s ≡ refused_pick 1
 unfolding answer_to
 short s h = rw (ne_eqb _ _ h) refl
 
-pub refuses : (s oam : List ℕ) (line tall : ℕ) → (length s ≡ request_bytes → ⊥) → (length oam ≡ oam_bytes → ⊥)
-    → pick_of oam line tall ≡ answer_to s
-refuses s oam line tall h g = refused oam line tall g ∙ sym (short s h)
-
 -- the pick of a request that is taken apart at its end
 abbrev split : List ℕ → Picked
-split s = pick_of (take (length s - 2) s) (get_or s (length s - 2) 0) (get_or s (length s - 2 + 1) 0)
+split s = pick_of (take (length s - 2) s) (get_or s (length s - 2) 0) (get_or s (length s - 1) 0)
 
 pub apart : (s : List ℕ) → 2 ≤ length s → split s ≡ answer_to s
 unfolding answer_to

@@ -1,8 +1,7 @@
 -- The request that the program reads: OAM, a line and how tall sprites are, 162 bytes.
 use Rattle.std.specs.Prelude.{ℕ, ◌+◌, cond, List, eqb, length, take, get_or}
 use Rattle.hardware.specs.Tables.{oam_bytes}
-use Rattle.sprite.specs.Pick.{refused_pick, pick_of}
-use Rattle.sprite.specs.declared.Picked.{Picked}
+use Rattle.sprite.specs.Pick.{refused_pick, pick_of, Picked}
 
 -- OAM and two bytes after it
 abbrev pub request_bytes : ℕ

@@ -1,4 +1,5 @@
 -- The ways of the parts of a draw: what holds of each result holds of the part.
+use Rattle.std.proofs.Common.{Option, Some, None}
 use mathlib.Core.Path.{◌≡◌, refl}
 use mathlib.Core.Bool.{Bool, true, false}
 use mathlib.Core.List.{List}
@@ -12,8 +13,6 @@ use Rattle.bg_attribs.specs.declared.BgAttribute.{BgAttribute}
 use Rattle.tiles.specs.Map.{fetch_bg}
 use Rattle.state.specs.With.{with_fetcher}
 use Rattle.state.specs.declared.Registers.{Registers}
-use Rattle.state.specs.declared.Waiting.{Waiting}
-use Rattle.state.specs.declared.Waiting.TheVariants.{Row, Nothing}
 use Rattle.state.specs.declared.Pipe.{Pipe}
 use Rattle.pipe.specs.Window.{reached, enters, window_entered, windowed}
 use Rattle.pipe.specs.Fetching.{fetch_of, fetched_pipe, took_row, waited, row_pushed, fed_by, fed}
@@ -54,13 +53,13 @@ fetched_cases vram r line p P later took =
 -- more than eight are queued, nothing waits, or a row goes in
 pub fed_cases : (palettes : List ℕ) (p : Pipe) (P : Pipe → Type 0)
     → (8 < p.bg.len → P p)
-    → (p.bg.len ≤ 8 → p.fetcher.waiting ≡ Nothing → P p)
-    → (p.bg.len ≤ 8 → (t : BgAttribute) → p.fetcher.waiting ≡ Row t → P (row_pushed palettes t p))
+    → (p.bg.len ≤ 8 → p.fetcher.waiting ≡ None → P p)
+    → (p.bg.len ≤ 8 → (t : BgAttribute) → p.fetcher.waiting ≡ Some t → P (row_pushed palettes t p))
     → P (fed palettes p)
 unfolding fed
 fed_cases palettes p P full none row =
     by_test P (leb p.bg.len 8) (λ e. waits (leb-true _ _ e) p.fetcher.waiting refl) (λ e. full (leb-false _ _ e))
   where
-    waits : p.bg.len ≤ 8 → (w : Waiting) → p.fetcher.waiting ≡ w → P (fed_by palettes w p)
-    waits h (Row t) e = row h t e
-    waits h Nothing e = none h e
+    waits : p.bg.len ≤ 8 → (w : Option BgAttribute) → p.fetcher.waiting ≡ w → P (fed_by palettes w p)
+    waits h (Some t) e = row h t e
+    waits h None e = none h e

@@ -8,7 +8,7 @@ ghost use Rattle.pipe.specs.Fetching.{took_row, fetched_pipe, row_pushed, fed};
 
 use bg_attribs::BgAttribute;
 use colors::PaletteSet;
-use state::{Fetcher, Pipe, Registers, Waiting};
+use state::{Fetcher, Pipe, Registers};
 use tiles::{Fetch, Fetched};
 
 // Whether the window's first column is at LCD x.
@@ -104,7 +104,7 @@ fn take_row(f: Fetcher, t: Fetched) -> Fetcher
         delay: 8,
         column,
         row,
-        waiting: Waiting::Row(attribute),
+        waiting: Some(attribute),
     }
 }
 
@@ -149,7 +149,7 @@ fn push_row(palettes: PaletteSet, t: BgAttribute, p: Pipe) -> Pipe
         delay: f.delay,
         column: f.column,
         row,
-        waiting: Waiting::Nothing,
+        waiting: None,
     };
     let mut n = p;
     n.fetcher = fetcher;
@@ -164,9 +164,7 @@ pub fn feed(palettes: PaletteSet, p: Pipe) -> Pipe
     if p.bg.len > 8 {
         return p;
     }
-    let f = p.fetcher;
-    let waiting = f.waiting;
-    let Waiting::Row(t) = waiting else {
+    let Some(t) = p.fetcher.waiting else {
         return p;
     };
     push_row(palettes, t, p)

@@ -1,5 +1,6 @@
 -- Laws of the sprites laid into the queue: its length, its slots and the order of its pixels. What is popped off such a queue, and
 -- what is seen of it, has a colour number.
+use Rattle.std.proofs.Common.{Option, Some, None}
 use mathlib.Core.Path.{◌≡◌, refl, ◌∙◌}
 use mathlib.Core.Bool.{Bool, true, ◌&&◌}
 use mathlib.Core.List.{List, [], ◌∷◌}
@@ -19,8 +20,6 @@ use Rattle.fifo.specs.Sprites.{sprite_queued, inked, inked_row, sprite_pushed, s
 use Rattle.fifo.specs.declared.BgFifoPixel.{BgFifoPixel}
 use Rattle.fifo.specs.declared.SpriteFifo.{SpriteFifo}
 use Rattle.fifo.specs.declared.SpriteFifoPixel.{SpriteFifoPixel}
-use Rattle.fifo.specs.declared.SpritePop.{SpritePop}
-use Rattle.fifo.specs.declared.SpritePop.TheVariants.{Pixel, Nothing}
 use Rattle.fifo.proofs.Sprites.{inked_row_length, sprite_pushed_slots, sprite_pushed_every, sprite_pixel_every}
 use Rattle.tiles.specs.Objects.{starts_at, sprite_colours}
 use Rattle.tiles.proofs.Colours.{Small, sprite_colours_law}
@@ -28,24 +27,24 @@ use Rattle.state.specs.declared.Registers.{Registers}
 use Rattle.state.specs.declared.Spot.{Spot}
 use Rattle.order.specs.Order.{slot_order, sprite_pixel_order}
 use Rattle.order.specs.Fine.{SelectionFine, SpriteFine}
-use Rattle.pixel.specs.Mixer.{wins, winner, Coloured, WinnerColoured}
+use Rattle.pixel.specs.Mixer.{wins, winner, Coloured}
 use Rattle.pixel.specs.Sprites.{tall_of, ink_of, pixels_of, sprite_added, all_added, sprites_added, elsewhere, none_starts}
 
 -- a pixel popped off a queue in order has a colour number
 pub popped_coloured : (q : SpriteFifo) → every sprite_pixel_order (sprite_queued q) ≡ true → Coloured (sprite_popped q).answer
 popped_coloured q e = of (sprite_popped q).answer refl
   where
-    of : (a : SpritePop) → (sprite_popped q).answer ≡ a → Coloured a
-    of (Pixel p) same =
+    of : (a : Option SpriteFifoPixel) → (sprite_popped q).answer ≡ a → Coloured a
+    of (Some p) same =
         let small : p.color ≤ 3 = leb-true _ _ (first _ (leb p.obp 1 && leb p.index 39) (sprite_pixel_every q sprite_pixel_order p e same)) in
         omega arith
-    of Nothing same = tt
+    of None same = tt
 
 -- and so has what is seen
-pub winner_coloured : (r : Registers) (b : BgFifoPixel) (pop : SpritePop) → Coloured pop → WinnerColoured (winner r b pop)
+pub winner_coloured : (r : Registers) (b : BgFifoPixel) (pop : Option SpriteFifoPixel) → Coloured pop → Coloured (winner r b pop)
 unfolding winner
-winner_coloured r b (Pixel s) h = by_test WinnerColoured (wins r b s) (λ e. h) (λ e. tt)
-winner_coloured r b Nothing h = tt
+winner_coloured r b (Some s) h = by_test Coloured (wins r b s) (λ e. h) (λ e. tt)
+winner_coloured r b None h = tt
 
 -- a row of a sprite in order is in order
 row_order_law : (ink : SpriteFifoPixel) (colours : List ℕ) → Small colours → ink.obp ≤ 1 → ink.index ≤ 39

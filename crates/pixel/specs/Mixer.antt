@@ -1,16 +1,12 @@
 -- 01, "One draw", and Pan Docs, "Pixel FIFO": which of two pixels is seen, and then its colour.
-use Rattle.std.specs.Prelude.{ℕ, ◌<◌, Bool, not, cond, ◌&&◌, ◌||◌, eqb}
+use Rattle.std.specs.Prelude.{ℕ, ◌<◌, Bool, not, cond, ◌&&◌, ◌||◌, eqb, Option, Some, None}
 use Rattle.wrap.specs.Wrap.{bit_at}
 use Rattle.colors.specs.Palettes.{colour_at}
 use Rattle.colors.specs.Shade.{shade}
 use Rattle.colors.specs.declared.Color.{Color}
 use Rattle.fifo.specs.declared.BgFifoPixel.{BgFifoPixel}
 use Rattle.fifo.specs.declared.SpriteFifoPixel.{SpriteFifoPixel}
-use Rattle.fifo.specs.declared.SpritePop.{SpritePop}
-use Rattle.fifo.specs.declared.SpritePop.TheVariants.{Pixel, Nothing}
 use Rattle.state.specs.declared.Registers.{Registers}
-use Rattle.pixel.specs.declared.Winner.{Winner}
-use Rattle.pixel.specs.declared.Winner.TheVariants.{Background, Sprite}
 
 -- the sprite pixel wins exactly if its colour is not 0 and: colour mode with LCDC bit 0 clear, or background 0, or neither
 -- priority bit set
@@ -19,10 +15,10 @@ wins r b s =
     not (eqb s.color 0)
     && ((r.cgb && not (bit_at r.lcdc 0)) || (eqb b.color 0 || (not b.priority && not s.priority)))
 
--- what is seen: a popped sprite pixel that wins, else the background
-unfoldable pub winner : Registers → BgFifoPixel → SpritePop → Winner
-winner r b (Pixel s) = cond (wins r b s) (Sprite s) Background
-winner r b Nothing = Background
+-- the sprite pixel that is seen: a popped one that wins; else the background is
+unfoldable pub winner : Registers → BgFifoPixel → Option SpriteFifoPixel → Option SpriteFifoPixel
+winner r b (Some s) = cond (wins r b s) (Some s) None
+winner r b None = None
 
 -- outside colour mode a colour passes a palette byte
 abbrev pub passed : Registers → ℕ → ℕ → ℕ
@@ -36,19 +32,15 @@ abbrev pub sprite_colour : Registers → SpriteFifoPixel → Color
 sprite_colour r s = colour_at s.palette (passed r (cond (eqb s.obp 0) r.obp0 r.obp1) s.color)
 
 -- the colour of what is seen
-abbrev pub winner_colour : Registers → BgFifoPixel → Winner → Color
-winner_colour r b Background = bg_colour r b
-winner_colour r b (Sprite s) = sprite_colour r s
+abbrev pub winner_colour : Registers → BgFifoPixel → Option SpriteFifoPixel → Color
+winner_colour r b (Some s) = sprite_colour r s
+winner_colour r b None = bg_colour r b
 
 -- the colour seen of a background pixel and a pop of the sprite queue
-unfoldable pub seen : Registers → BgFifoPixel → SpritePop → Color
+unfoldable pub seen : Registers → BgFifoPixel → Option SpriteFifoPixel → Color
 seen r b pop = winner_colour r b (winner r b pop)
 
--- a popped pixel has a colour number, and so has a sprite pixel that is seen
-abbrev pub Coloured : SpritePop → Type 0
-Coloured (Pixel s) = s.color < 4
-Coloured Nothing = Unit {0}
-
-abbrev pub WinnerColoured : Winner → Type 0
-WinnerColoured Background = Unit {0}
-WinnerColoured (Sprite s) = s.color < 4
+-- a sprite pixel that was popped, or is seen, has a colour number
+abbrev pub Coloured : Option SpriteFifoPixel → Type 0
+Coloured (Some s) = s.color < 4
+Coloured None = Unit {0}

@@ -5,10 +5,10 @@ ghost use Rattle.std.specs.Prelude.{◌≡◌, ◌<◌, ◌≤◌, length};
 ghost use Rattle.hardware.specs.Tables.{vram_bytes};
 ghost use Rattle.pixel.specs.Sprites.{tall_of, selector, ink_of, none_starts, sprite_added, sprites_added};
 ghost use Rattle.pixel.specs.Mixer.{wins, winner, passed, bg_colour, sprite_colour, winner_colour, seen};
-ghost use Rattle.pixel.specs.Mixer.{Coloured, WinnerColoured};
+ghost use Rattle.pixel.specs.Mixer.{Coloured};
 
 use colors::{Color, PaletteSet};
-use fifo::{BgFifoPixel, SpriteFifo, SpriteFifoPixel, SpritePop};
+use fifo::{BgFifoPixel, SpriteFifo, SpriteFifoPixel};
 use sprite::{SelectedSprite, Selection};
 use state::{Registers, Spot};
 
@@ -73,17 +73,9 @@ pub fn does_none_start(l: Selection, x: u8) -> bool
     requires { l.count ≤ 10 }
     ensures { result ≡ none_starts l x }
 {
-    let count = l.count as usize;
-    let slots = l.slots;
-    let mut i = 0;
-    while i < count {
-        let slot = slots[i];
-        if tiles::starts_at(slot.sprite, x) {
-            return false;
-        }
-        i += 1;
-    }
-    true
+    l.slots[..l.count as usize]
+        .iter()
+        .all(|slot| !tiles::starts_at(slot.sprite, x))
 }
 
 // The sprite queue after the selected sprites that start at the place, if sprites are drawn.
@@ -101,24 +93,11 @@ pub fn add_sprites(
     if !wrap::bit(r.lcdc, 1) {
         return q;
     }
-    let count = l.count as usize;
-    let slots = l.slots;
     let mut queue = q;
-    let mut k = 0;
-    while k < count {
-        let slot = slots[k];
-        let next = add_sprite(vram, r, palettes, at, queue, slot);
-        queue = next;
-        k += 1;
+    for slot in &l.slots[..l.count as usize] {
+        queue = add_sprite(vram, r, palettes, at, queue, *slot);
     }
     queue
-}
-
-// What is seen at a place: the background pixel, or a sprite pixel in front of it.
-#[derive(Clone, Copy)]
-pub enum Winner {
-    Background,
-    Sprite(SpriteFifoPixel),
 }
 
 // Whether a sprite pixel is seen in front of a background pixel.
@@ -142,17 +121,14 @@ pub fn sprite_wins(r: Registers, b: BgFifoPixel, s: SpriteFifoPixel) -> bool
     !s.priority
 }
 
-// Which pixel is seen. A pop of nothing falls back to the background.
-pub fn decide(r: Registers, b: BgFifoPixel, pop: SpritePop) -> Winner
+// The sprite pixel that is seen in front of the background pixel, if one is. A pop of nothing falls back to the background.
+pub fn decide(r: Registers, b: BgFifoPixel, pop: Option<SpriteFifoPixel>) -> Option<SpriteFifoPixel>
     ensures { result ≡ winner r b pop }
 {
-    let SpritePop::Pixel(s) = pop else {
-        return Winner::Background;
+    let Some(s) = pop else {
+        return None;
     };
-    if sprite_wins(r, b, s) {
-        return Winner::Sprite(s);
-    }
-    Winner::Background
+    if sprite_wins(r, b, s) { Some(s) } else { None }
 }
 
 // A colour, passed by a palette byte outside colour mode.
@@ -188,18 +164,18 @@ fn sprite_color(r: Registers, s: SpriteFifoPixel) -> Color
 }
 
 // The colour of what is seen.
-pub fn color_of(r: Registers, b: BgFifoPixel, w: Winner) -> Color
-    requires { (b.color < 4) × WinnerColoured w }
+pub fn color_of(r: Registers, b: BgFifoPixel, w: Option<SpriteFifoPixel>) -> Color
+    requires { (b.color < 4) × Coloured w }
     ensures { result ≡ winner_colour r b w }
 {
     match w {
-        Winner::Background => bg_color(r, b),
-        Winner::Sprite(s) => sprite_color(r, s),
+        Some(s) => sprite_color(r, s),
+        None => bg_color(r, b),
     }
 }
 
 // The mixer: of a background pixel and a pop of the sprite queue one is seen, and its colour is the answer.
-pub fn mixer(r: Registers, b: BgFifoPixel, pop: SpritePop) -> Color
+pub fn mixer(r: Registers, b: BgFifoPixel, pop: Option<SpriteFifoPixel>) -> Color
     requires { (b.color < 4) × Coloured pop }
     ensures { result ≡ seen r b pop }
 {

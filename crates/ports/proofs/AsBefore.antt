@@ -11,7 +11,7 @@ use Rattle.oam_bug.proofs.Rules.{By, zero_by_write, one_by_read, two_by_read_wri
 use Rattle.terms.specs.Numbers.{bug_number, kind_number}
 use Rattle.ports.specs.Calls.{bug_row, Corruption, OamBug}
 use Rattle.ports.specs.AsBefore.{Is, EachKind}
-use Rattle.ports.specs.declared.Answer.{Answer}
+use Rattle.ports.specs.Answers.{Answer}
 use Rattle.ports.proofs.Coincide.{oam_bug_coincides}
 
 -- where the number and the rule of a kind are those of its call

@@ -5,12 +5,13 @@ use mathlib.Core.List.{List}
 use Prim.Native.Nat.{ℕ}
 use denote.Ref.{Bor}
 use Rattle.lcd.specs.Pictures.{pictures}
-use Rattle.sprite.specs.Pick.{pick_of}
-use Rattle.sprite.specs.declared.Picked.{Picked}
+use Rattle.std.specs.Prelude.{Result}
+use Rattle.refusals.specs.declared.Refusal.{Refusal}
+use Rattle.refusals.proofs.Tells.{answer_tells, done_tells}
+use Rattle.sprite.specs.Pick.{pick_of, Picked}
 use Rattle.state.specs.declared.State.{State}
 use Rattle.ports.specs.Calls.{read_answer, colour_answer, VramWrite, OamWrite, OamBug, shows, Shown}
-use Rattle.ports.specs.declared.Answer.{Answer}
-use Rattle.ports.specs.declared.ReadAnswer.{ReadAnswer}
+use Rattle.ports.specs.Answers.{Answer, ReadAnswer, answered, value_of, read_answered}
 use Rattle.ports.proofs.Answers.{same_answer}
 
 -- two that equal a third
@@ -49,3 +50,14 @@ shown_coincides {s} {a} {b} {r} {q} e f = by (shows s (pictures a.now b.now)) re
 
 pub pick_coincides : (oam : List ℕ) (line tall : ℕ) {r q : Picked} → r ≡ pick_of oam line tall → q ≡ pick_of oam line tall → r ≡ q
 pick_coincides oam line tall = one
+
+-- and an answer of the code is told by what its promise speaks of; that of a pick by `picked_tells` of `sprite`
+pub answered_tells : (r q : Result (Unit {0}) Refusal) (s t : State) → answered r s ≡ answered q t → (r ≡ q) × (s ≡ t)
+answered_tells r q s t e =
+    (done_tells r q (ap (λ (x : Answer). x.number) e), ap (λ (x : Answer). x.state) e)
+
+pub read_tells : (r q : Result ℕ Refusal) (s t : State) → read_answered r s ≡ read_answered q t → (r ≡ q) × (s ≡ t)
+read_tells r q s t e = (
+  answer_tells value_of (λ x y d. d) r q (ap (λ (x : ReadAnswer). x.number) e) (ap (λ (x : ReadAnswer). x.value) e),
+  ap (λ (x : ReadAnswer). x.state) e,
+)

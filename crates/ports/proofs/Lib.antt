@@ -1,5 +1,5 @@
 -- The laws of `ports` that belong to no one function.
--- a corruption, refused or done
+-- an accepted corruption
 pub mod Bug
 -- each kind is what its own call was
 pub mod AsBefore

@@ -3,7 +3,7 @@ use Rattle.std.specs.Prelude.{ℕ, ◌≡◌, List}
 use Rattle.state.specs.declared.State.{State}
 use Rattle.oam_bug.specs.Corruption.{write_corrupted, read_corrupted, read_write_corrupted}
 use Rattle.ports.specs.Calls.{Corruption, OamBug}
-use Rattle.ports.specs.declared.Answer.{Answer}
+use Rattle.ports.specs.Answers.{Answer}
 
 -- a kind is what the call of a rule was: on every input the two promises allow the same answers and bytes, both ways; so the
 -- call of the kind answers and leaves what that call answered and left

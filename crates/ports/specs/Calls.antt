@@ -11,8 +11,7 @@ use Rattle.registers.specs.Write.{register_read, colour_set}
 use Rattle.oam_bug.specs.Corruption.{corrupted_row}
 use Rattle.oam_bug.specs.Kinds.{corrupted}
 use Rattle.terms.specs.Numbers.{read_number, shown_number, vram_number, oam_number, colour_number, bug_number, kind_number}
-use Rattle.ports.specs.declared.Answer.{Answer}
-use Rattle.ports.specs.declared.ReadAnswer.{ReadAnswer}
+use Rattle.ports.specs.Answers.{Answer, ReadAnswer}
 
 -- a read, and a call of the colour flag, lend nothing; a read gives the state back as given, done or refused
 abbrev pub read_answer : State → ℕ → ReadAnswer

@@ -1,111 +1,77 @@
 // The public calls that touch no picture, or only show one: reads and writes of the ports, VRAM and OAM, the colour flag, OAM
 // corruption, the picture shown, the pick; with their refusals. No call asks anything of its caller. `ppu` hands them on.
+// Lent memory comes buffer by buffer, and in no struct: `&` and `&mut` tell of each what a call may do with it.
 #![tactic(auto)]
 
 ghost use Rattle.std.specs.Prelude.{◌≡◌};
-ghost use Rattle.sprite.specs.Pick.{pick_of};
+ghost use Rattle.refusals.specs.Refused.{number_of};
+ghost use Rattle.sprite.specs.Pick.{pick_of, picked};
+ghost use Rattle.ports.specs.Answers.{answered, read_answered};
 ghost use Rattle.ports.specs.Calls.{read_answer, colour_answer, VramWrite, OamWrite, OamBug, Shown};
 
-use sprite::Picked;
+use refusals::Refusal;
+use sprite::Selection;
 use state::State;
 
-// A number of 01's table, 0 for done, and the state.
-#[derive(Clone, Copy)]
-pub struct Answer {
-    pub number: u8,
-    pub state: State,
-}
-
-// What a register read answers.
-#[derive(Clone, Copy)]
-pub struct ReadAnswer {
-    pub number: u8,
-    pub value: u8,
-    pub state: State,
-}
-
-// A read of a palette port; the state comes back as given. Refused by 2, 4.
-pub fn read_register(s: State, address: u16) -> ReadAnswer
-    ensures { result ≡ read_answer s address }
+// A read of a palette port. Refused by 2, 4.
+pub fn read_register(s: &State, address: u16) -> Result<u8, Refusal>
+    ensures { read_answered result s.now ≡ read_answer s.now address }
 {
-    let number = terms::read_number(s, address);
-    if number != 0 {
-        return ReadAnswer {
-            number,
-            value: 0,
-            state: s,
-        };
-    }
-    let value = registers::read_register(s.palettes, address);
-    ReadAnswer {
-        number,
-        value,
-        state: s,
-    }
+    terms::read(*s, address)?;
+    Ok(registers::read_register(s.palettes, address))
 }
 
 // A VRAM write, at the address modulo 8,192 of the present bank. Refused by 1, 2.
-pub fn write_vram(s: State, vram: &mut [u8], address: u16, value: u8) -> Answer
-    ensures { VramWrite s vram.old address value result vram.new }
+pub fn write_vram(s: &State, vram: &mut [u8], address: u16, value: u8) -> Result<(), Refusal>
+    ensures { VramWrite s.now vram.old address value (answered result s.now) vram.new }
 {
-    let number = terms::vram_number(s, vram);
-    if number != 0 {
-        return Answer { number, state: s };
-    }
+    terms::vram(*s, vram)?;
     memory::write_vram(vram, s.regs.vbk, address, value);
-    Answer { number, state: s }
+    Ok(())
 }
 
 // An OAM write, at the low byte of the address. Refused by 1, 4.
-pub fn write_oam(oam: &mut [u8], address: u16, value: u8) -> u8
-    ensures { OamWrite oam.old address value result oam.new }
+pub fn write_oam(oam: &mut [u8], address: u16, value: u8) -> Result<(), Refusal>
+    ensures { OamWrite oam.old address value (number_of result) oam.new }
 {
-    let number = terms::oam_number(oam, address);
-    if number != 0 {
-        return number;
-    }
+    terms::oam(oam, address)?;
     memory::write_oam(oam, address, value);
-    number
+    Ok(())
 }
 
 // Sets colour mode, which holds only if the device is not DMG. Refused by 2.
-pub fn set_colour(s: State, flag: bool) -> Answer
-    ensures { result ≡ colour_answer s flag }
+pub fn set_colour(s: &mut State, flag: bool) -> Result<(), Refusal>
+    ensures { answered result s.new ≡ colour_answer s.old flag }
 {
-    let number = terms::colour_number(s);
-    if number != 0 {
-        return Answer { number, state: s };
-    }
-    let state = registers::set_colour(s, flag);
-    Answer { number, state }
+    terms::colour(*s)?;
+    *s = registers::set_colour(*s, flag);
+    Ok(())
 }
 
 // OAM corruption: kind 0 by a write, 1 by a read, 2 by a read and a write in one cycle. Refused by 1, 2, 4, 5.
-pub fn oam_bug(s: State, oam: &mut [u8], kind: u8) -> Answer
-    ensures { OamBug kind s oam.old result oam.new }
+// The kind stays a number here: `OamBug` says of every number what is answered, 4 for one of no kind.
+pub fn oam_bug(s: &State, oam: &mut [u8], kind: u8) -> Result<(), Refusal>
+    ensures { OamBug kind s.now oam.old (answered result s.now) oam.new }
 {
-    let number = terms::kind_number(s, oam, kind);
-    if number != 0 {
-        return Answer { number, state: s };
-    }
+    let kind = terms::kind(*s, oam, kind)?;
     let row = oam_bug::corrupted_row(s.regs.stat % 4, s.beam.cycle);
     oam_bug::corrupt(oam, row, kind);
-    Answer { number, state: s }
+    Ok(())
 }
 
-// The picture shown: picture A or picture B, whole and unmoved; on a refusal the empty part of picture A.
-pub fn screen_buffer<'a>(s: State, a: &'a [u8], b: &'a [u8]) -> &'a [u8]
-    ensures { Shown s a.entry b.entry result }
+// The picture shown: picture A or picture B, whole and unmoved. No `Result`: on a refusal the empty part of picture A (docs/01-scope.md).
+pub fn screen_buffer<'a>(s: &State, a: &'a [u8], b: &'a [u8]) -> &'a [u8]
+    ensures { Shown s.now a.entry b.entry result }
 {
-    if terms::shown_number(s, a, b) != 0 {
-        return &a[..0];
+    match terms::shown(*s, a, b) {
+        Ok(()) => lcd::screen_buffer(s.beam.shown, a, b),
+        Err(_) => &a[..0],
     }
-    lcd::screen_buffer(s.beam.shown, a, b)
 }
 
 // The ten lowest entries in range of a line, of sprites 8 or 16 tall. Refused by 1, 4.
-pub fn pick(oam: &[u8], line: u8, tall: u8) -> Picked
-    ensures { result ≡ pick_of oam.now line tall }
+pub fn pick(oam: &[u8], line: u8, tall: u8) -> Result<Selection, Refusal>
+    ensures { picked result ≡ pick_of oam.now line tall }
 {
     sprite::pick(oam, line, tall)
 }

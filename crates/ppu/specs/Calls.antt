@@ -12,8 +12,8 @@ use Rattle.beam.specs.declared.Mark.TheVariants.{No}
 use Rattle.step.specs.Step.{report, stepped, pictures_after}
 use Rattle.step.specs.declared.Report.{Report}
 use Rattle.terms.specs.Numbers.{start_number, step_number, write_number}
-use Rattle.ports.specs.declared.Answer.{Answer}
-use Rattle.ppu.specs.declared.StepAnswer.{StepAnswer}
+use Rattle.ports.specs.Answers.{Answer}
+use Rattle.ppu.specs.Answers.{StepAnswer}
 
 -- 0 or no
 abbrev pub no_report : Report

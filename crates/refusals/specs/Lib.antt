@@ -1,2 +1,4 @@
 -- What every refusal cites.
 pub mod Ladder
+-- the numbers of the table, as an answer has them
+pub mod Refused

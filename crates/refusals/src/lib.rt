@@ -1,32 +1,54 @@
-// The ladder of refusals: of 01's numbers the lowest that applies, 0 for done.
+// The ladder of refusals: why a call is refused, and of the reasons that apply the one with the lowest number.
 #![tactic(auto)]
 
-ghost use Rattle.std.specs.Prelude.{◌≡◌};
-ghost use Rattle.refusals.specs.Ladder.{lowest, own, first};
+ghost use Rattle.std.specs.Prelude.{◌≡◌, cond, Ok, Err};
+ghost use Rattle.refusals.specs.Refused.{refusal_number};
 
-// 1 unless every lent buffer has its length, 2 unless the state is in order, else the call's own number.
-pub fn lowest(sized: bool, ordered: bool, own: u8) -> u8
-    ensures { result ≡ lowest sized ordered own }
-{
-    if !sized {
-        return 1;
-    }
-    if !ordered {
-        return 2;
-    }
-    own
+use std::fmt;
+
+// Why a call is refused: a lent buffer has another length than the unit's; the state is not in order; a step is not of 2 or 4 cycles, or is of 4
+// while the cycle is no multiple of 4; there is no such register, address, line, height or kind; a corruption comes at another time of mode 2.
+#[derive(Clone, Copy, Debug, PartialEq, Eq)]
+pub enum Refusal {
+    Length,
+    State,
+    Pace,
+    Argument,
+    Time,
 }
 
-// A call's own number, given where its own test fails.
-pub fn own(passed: bool, number: u8) -> u8
-    ensures { result ≡ own passed number }
-{
-    if passed { 0 } else { number }
+impl Refusal {
+    // The number in the table of refusals.
+    pub fn number(self) -> u8
+        ensures { result ≡ refusal_number self }
+    {
+        match self {
+            Refusal::Length => 1,
+            Refusal::State => 2,
+            Refusal::Pace => 3,
+            Refusal::Argument => 4,
+            Refusal::Time => 5,
+        }
+    }
 }
 
-// Of a call's two own numbers the lower, unless its test passed.
-pub fn first(lower: u8, higher: u8) -> u8
-    ensures { result ≡ first lower higher }
+impl fmt::Display for Refusal {
+    fn fmt<W: fmt::Write>(&self, f: &mut fmt::Formatter<W>) -> fmt::Result {
+        f.write_str(match self {
+            Refusal::Length => "a lent buffer has another length than the unit's",
+            Refusal::State => "the state is not in order",
+            Refusal::Pace =>
+                "a step is not 2 or 4 cycles, or is 4 while the cycle is not a multiple of 4",
+            Refusal::Argument =>
+                "the address is of no register that can be written, or its low byte is outside of OAM",
+            Refusal::Time => "a corruption of OAM in mode 2 before cycle 4 or after cycle 83",
+        })
+    }
+}
+
+// A test of a call, which is refused where it fails. A ladder of them, each with `?`, gives the lowest number that applies.
+pub fn need<E: Copy>(passed: bool, why: E) -> Result<(), E>
+    ensures { result ≡ cond passed (Ok tt) (Err why) }
 {
-    if lower == 0 { higher } else { lower }
+    if passed { Ok(()) } else { Err(why) }
 }

@@ -1,4 +1,5 @@
 // The registers: which can be written, what a write and a read do, blanking, and the colour flag.
+// Lent memory comes buffer by buffer, and in no struct: `&` and `&mut` tell of each what a call may do with it.
 #![tactic(auto)]
 
 ghost use Rattle.std.specs.Prelude.{◌≡◌, cond, true, ◌<◌, ◌≤◌, ◌+◌, ◌%◌};
@@ -12,10 +13,11 @@ ghost use Rattle.registers.specs.Write.{readable, register_read, colour_set};
 use colors::PaletteSet;
 use state::{Beam, Palettes, Registers, State};
 
-// A writable register: its address and the bits of a write that are kept.
+// A writable register: its address and the bits of a write that are kept. Fields without names, so that an entry of the table is one line.
 #[derive(Clone, Copy)]
 pub struct Writable(pub u16, pub u8);
 
+// One constant array, and addresses as numbers in it: docs/01-scope.md names this form.
 const WRITABLE: [Writable; 16] = [
     Writable(0xFF40, 0xFF), // LCDC
     Writable(0xFF41, 0x78), // STAT
@@ -39,25 +41,11 @@ const WRITABLE: [Writable; 16] = [
 pub fn kept_bits(address: u16) -> u8
     ensures { result ≡ kept_bits address }
 {
-    let mut k = 0;
-    while k < 16 {
-        let w = WRITABLE[k];
-        if w.0 == address {
-            return w.1;
-        }
-        k += 1;
-    }
-    0
+    WRITABLE.iter().find(|w| w.0 == address).map_or(0, |w| w.1)
 }
 
 // The new value at its own address, else the old one.
-fn replaced(here: bool, new: u8, old: u8) -> u8
-    ensures { result ≡ cond here new old }
-{
-    if here { new } else { old }
-}
-
-fn replaced_flag(here: bool, new: bool, old: bool) -> bool
+fn replaced<T: Copy>(here: bool, new: T, old: T) -> T
     ensures { result ≡ cond here new old }
 {
     if here { new } else { old }
@@ -89,7 +77,7 @@ pub fn write_registers(r: Registers, address: u16, v: u8) -> Registers
         wy: replaced(address == 0xFF4A, v, r.wy),
         wx: replaced(address == 0xFF4B, v, r.wx),
         vbk: replaced(address == 0xFF4F, v, r.vbk),
-        coord: replaced_flag(address == 0xFF6C, v == 1, r.coord),
+        coord: replaced(address == 0xFF6C, v == 1, r.coord),
         cgb: r.cgb,
     }
 }
@@ -121,13 +109,7 @@ pub fn write_palettes(p: Palettes, address: u16, v: u8) -> Palettes
 pub fn does_blank(r: Registers, address: u16, v: u8) -> bool
     ensures { result ≡ blanks r address v }
 {
-    if address != 0xFF40 {
-        return false;
-    }
-    if !wrap::bit(r.lcdc, 7) {
-        return false;
-    }
-    !wrap::bit(v, 7)
+    address == 0xFF40 && wrap::bit(r.lcdc, 7) && !wrap::bit(v, 7)
 }
 
 fn blank_registers(r: Registers) -> Registers
@@ -199,29 +181,21 @@ pub fn write_register(s: State, a: &mut [u8], b: &mut [u8], address: u16, value:
 pub fn is_readable(address: u16) -> bool
     ensures { result ≡ readable address }
 {
-    if address < 0xFF68 {
-        return false;
-    }
-    address <= 0xFF6B
+    0xFF68 <= address && address <= 0xFF6B
 }
 
 // The value of a readable register.
+#[tactic(auto, unfolding(crate::specs::Write::register_read))]
 pub fn read_register(p: Palettes, address: u16) -> u8
     requires { PalettesFine p }
     ensures { result ≡ register_read p address }
 {
-    let bg = p.bg;
-    let obj = p.obj;
-    if address == 0xFF68 {
-        return bg.read_index();
+    match address {
+        0xFF68 => p.bg.read_index(),
+        0xFF69 => p.bg.read_color_data(),
+        0xFF6A => p.obj.read_index(),
+        _ => p.obj.read_color_data(),
     }
-    if address == 0xFF69 {
-        return bg.read_color_data();
-    }
-    if address == 0xFF6A {
-        return obj.read_index();
-    }
-    obj.read_color_data()
 }
 
 // Sets colour mode; it holds only if the device is not DMG.
@@ -229,10 +203,6 @@ pub fn set_colour(s: State, flag: bool) -> State
     ensures { result ≡ colour_set s flag }
 {
     let mut n = s;
-    if s.machine.dmg {
-        n.regs.cgb = false;
-    } else {
-        n.regs.cgb = flag;
-    }
+    n.regs.cgb = !s.machine.dmg && flag;
     n
 }

@@ -4,37 +4,11 @@ ghost use Rattle.std.specs.Prelude.{◌<◌};
 use crate::plain;
 use colors::{ColorPalette, PaletteSet};
 
-// The palettes after a request, and its answer.
+// Palettes whose index port points into them.
 #[derive(Clone, Copy)]
-pub struct Answered {
-    pub set: PaletteSet,
-    pub bytes: [u8; 8],
-}
-
-// What the two ports read as.
-fn ports(set: PaletteSet) -> [u8; 8]
-    requires { set.index < 64 }
-{
-    plain::five(set.read_index(), set.read_color_data(), 0, 0, 0)
-}
-
-// A write to the index port.
-fn write_index(set: PaletteSet, v: u8) -> Answered
-    ensures { result.set.index < 64 }
-{
-    let next = set.after_write(false, v);
-    let bytes = plain::five(next.read_index(), 0, 0, 0, 0);
-    Answered { set: next, bytes }
-}
-
-// A write to the data port.
-fn write_data(set: PaletteSet, v: u8) -> Answered
-    requires { set.index < 64 }
-    ensures { result.set.index < 64 }
-{
-    let next = set.after_write(true, v);
-    let bytes = ports(next);
-    Answered { set: next, bytes }
+pub struct Palettes {
+    set: PaletteSet,
+    ghost in_range: { set.index < 64 },
 }
 
 // The word of colour number c, modulo 4.
@@ -47,48 +21,58 @@ fn raw_of(p: ColorPalette, c: u8) -> u16 {
     }
 }
 
-// Colour number c of a palette.
-fn color_of(set: PaletteSet, p: u8, c: u8) -> [u8; 8] {
-    let palette = set.get_palette(p);
-    plain::color_and_raw(palette.get_color(c), raw_of(palette, c))
-}
+impl Palettes {
+    pub fn fresh() -> Self {
+        Palettes {
+            set: PaletteSet::fresh(),
+        }
+    }
 
-// The palettes with one of them made greys.
-fn greys(set: PaletteSet, p: u8) -> PaletteSet
-    requires { set.index < 64 }
-    ensures { result.index < 64 }
-{
-    set.set_palette(p, colors::grey_palette())
-}
+    // What the two ports read as.
+    fn ports(&self) -> [u8; 8] {
+        plain::told(&[self.set.read_index(), self.set.read_color_data()])
+    }
 
-// A request that answers nothing.
-fn silent(set: PaletteSet) -> Answered
-    requires { set.index < 64 }
-    ensures { result.set.index < 64 }
-{
-    Answered { set, bytes: [0; 8] }
-}
+    // A write to the index port.
+    fn write_index(&mut self, v: u8) -> [u8; 8] {
+        self.set = self.set.after_write(false, v);
+        plain::told(&[self.set.read_index()])
+    }
 
-// A request that changes nothing.
-fn unchanged(set: PaletteSet, bytes: [u8; 8]) -> Answered
-    requires { set.index < 64 }
-    ensures { result.set.index < 64 }
-{
-    Answered { set, bytes }
-}
+    // A write to the data port.
+    fn write_data(&mut self, v: u8) -> [u8; 8] {
+        self.set = self.set.after_write(true, v);
+        self.ports()
+    }
 
-// The answer to a request to the palettes.
-pub fn answer(set: PaletteSet, q: [u8; 8]) -> Answered
-    requires { set.index < 64 }
-    ensures { result.set.index < 64 }
-{
-    match q[0] {
-        11 => silent(PaletteSet::fresh()),
-        12 => write_index(set, q[1]),
-        13 => write_data(set, q[1]),
-        14 => unchanged(set, ports(set)),
-        15 => unchanged(set, color_of(set, q[1], q[2])),
-        16 => silent(greys(set, q[1])),
-        _ => unchanged(set, plain::unknown()),
+    // Colour number c of a palette.
+    fn color_of(&self, p: u8, c: u8) -> [u8; 8] {
+        let palette = self.set.get_palette(p);
+        plain::color_and_raw(palette.get_color(c), raw_of(palette, c))
+    }
+
+    // One of the palettes is made greys.
+    fn make_greys(&mut self, p: u8) -> [u8; 8] {
+        self.set = self.set.set_palette(p, colors::grey_palette());
+        [0; 8]
+    }
+
+    // The palettes as a start has them.
+    fn restart(&mut self) -> [u8; 8] {
+        *self = Palettes::fresh();
+        [0; 8]
+    }
+
+    // The answer to a request to the palettes, by its kind: the numbers are the list's own format.
+    pub fn answer(&mut self, q: [u8; 8]) -> [u8; 8] {
+        match q[0] {
+            11 => self.restart(),
+            12 => self.write_index(q[1]),
+            13 => self.write_data(q[1]),
+            14 => self.ports(),
+            15 => self.color_of(q[1], q[2]),
+            16 => self.make_greys(q[1]),
+            _ => plain::UNKNOWN,
+        }
     }
 }

@@ -5,93 +5,92 @@ ghost use Rattle.hardware.specs.Screen.{picture_bytes};
 use crate::plain;
 use colors::Color;
 use hardware::Machine;
+use wire::Digest;
 
-// Makes both pictures white.
-fn clear(a: &mut [u8; Machine::PICTURE_BYTES], b: &mut [u8; Machine::PICTURE_BYTES]) -> [u8; 8] {
-    lcd::fill(a, 255);
-    lcd::fill(b, 255);
-    [0; 8]
-}
-
-// Stores a colour in the picture that is not shown.
-fn store(
+// Two pictures, and the number of the one shown.
+#[derive(Drop)]
+pub struct Pictures {
+    a: [u8; Machine::PICTURE_BYTES],
+    b: [u8; Machine::PICTURE_BYTES],
     shown: u8,
-    a: &mut [u8; Machine::PICTURE_BYTES],
-    b: &mut [u8; Machine::PICTURE_BYTES],
-    x: u8,
-    y: u8,
-    c: Color,
-) -> [u8; 8] {
-    if x as usize >= Machine::WIDTH {
-        return plain::unknown();
-    }
-    if y as usize >= Machine::HEIGHT {
-        return plain::unknown();
-    }
-    if shown == 0 {
-        lcd::store(b, x, y, lcd::mixed(c));
-    } else {
-        lcd::store(a, x, y, lcd::mixed(c));
-    }
-    plain::mix(c)
-}
-
-// The picture shown at 0, the other at any other number.
-fn number_of(shown: u8, which: u8) -> u8
-    requires { shown ≤ 1 }
-{
-    if which == 0 {
-        shown
-    } else {
-        lcd::next_buffer_index(shown)
-    }
+    ghost one_of_two: { shown ≤ 1 },
 }
 
 // The three bytes of a place of a picture.
 fn place(picture: &[u8], x: u8, y: u8) -> [u8; 8]
     requires { length picture.now ≡ picture_bytes }
 {
-    if x as usize >= Machine::WIDTH {
-        return plain::unknown();
-    }
-    if y as usize >= Machine::HEIGHT {
-        return plain::unknown();
+    if usize::from(x) >= Machine::WIDTH || usize::from(y) >= Machine::HEIGHT {
+        return plain::UNKNOWN;
     }
     let at = lcd::offset_of(x, y);
-    plain::five(picture[at], picture[at + 1], picture[at + 2], 0, 0)
+    plain::told(&picture[at..at + 3])
 }
 
-// A request that only reads the pictures.
-fn look<'a>(n: u8, a: &'a [u8], b: &'a [u8], q: [u8; 8]) -> [u8; 8]
-    requires { (length a.now ≡ picture_bytes) × (length b.now ≡ picture_bytes) }
-{
-    let picture = lcd::screen_buffer(n, a, b);
-    if q[0] == 20 {
-        return place(picture, q[2], q[3]);
-    }
-    wire::bytes_of(wire::take_all(wire::nothing(), picture))
-}
-
-// Every request to the pictures but a switch.
-pub fn answer(
-    shown: u8,
-    a: &mut [u8; Machine::PICTURE_BYTES],
-    b: &mut [u8; Machine::PICTURE_BYTES],
-    q: [u8; 8],
-) -> [u8; 8]
-    requires { shown ≤ 1 }
-{
-    match q[0] {
-        18 => clear(a, b),
-        19 => {
-            let c = Color {
-                r: q[3],
-                g: q[4],
-                b: q[5],
-            };
-            store(shown, a, b, q[1], q[2], c)
+impl Pictures {
+    // Both are white, and the first is shown.
+    pub fn white() -> Self {
+        Pictures {
+            a: [255; Machine::PICTURE_BYTES],
+            b: [255; Machine::PICTURE_BYTES],
+            shown: 0,
         }
-        20 | 22 => look(number_of(shown, q[1]), a, b, q),
-        _ => plain::unknown(),
+    }
+
+    // Makes both pictures white.
+    fn clear(&mut self) -> [u8; 8] {
+        lcd::fill(&mut self.a, 255);
+        lcd::fill(&mut self.b, 255);
+        [0; 8]
+    }
+
+    // Stores a colour in the picture that is not shown.
+    fn store(&mut self, x: u8, y: u8, c: Color) -> [u8; 8] {
+        if usize::from(x) >= Machine::WIDTH || usize::from(y) >= Machine::HEIGHT {
+            return plain::UNKNOWN;
+        }
+        if self.shown == 0 {
+            lcd::store(&mut self.b, x, y, lcd::mixed(c));
+        } else {
+            lcd::store(&mut self.a, x, y, lcd::mixed(c));
+        }
+        plain::mix(c)
+    }
+
+    // Shows the other picture.
+    fn switch(&mut self) -> [u8; 8] {
+        self.shown = lcd::next_buffer_index(self.shown);
+        plain::told(&[self.shown])
+    }
+
+    // The picture shown at 0, the other at any other number.
+    fn picture(&self, which: u8) -> &[u8]
+        ensures { length result.now ≡ picture_bytes }
+    {
+        let n = if which == 0 {
+            self.shown
+        } else {
+            lcd::next_buffer_index(self.shown)
+        };
+        lcd::screen_buffer(n, &self.a, &self.b)
+    }
+
+    // The answer to a request to the pictures, by its kind: the numbers are the list's own format.
+    pub fn answer(&mut self, q: [u8; 8]) -> [u8; 8] {
+        match q[0] {
+            18 => self.clear(),
+            19 => {
+                let c = Color {
+                    r: q[3],
+                    g: q[4],
+                    b: q[5],
+                };
+                self.store(q[1], q[2], c)
+            }
+            20 => place(self.picture(q[1]), q[2], q[3]),
+            21 => self.switch(),
+            22 => Digest::new().bytes(self.picture(q[1])).to_bytes(),
+            _ => plain::UNKNOWN,
+        }
     }
 }

@@ -1,33 +1,36 @@
 // The requests that keep no state: an attribute, a sprite, a colour, a shade.
+ghost use Rattle.std.specs.Prelude.{◌≤◌, length};
+
 use bg_attribs::BgAttribute;
 use colors::Color;
 use sprite::Sprite;
 
 // The answer to a request that is not known, or whose place is not on the screen.
-pub fn unknown() -> [u8; 8] {
-    [255, 0, 0, 0, 0, 0, 0, 0]
-}
+pub const UNKNOWN: [u8; 8] = [255, 0, 0, 0, 0, 0, 0, 0];
 
-// An answer of five bytes.
-pub fn five(a: u8, b: u8, c: u8, d: u8, e: u8) -> [u8; 8] {
-    [a, b, c, d, e, 0, 0, 0]
+// An answer that begins with these bytes.
+pub fn told(bytes: &[u8]) -> [u8; 8]
+    requires { length bytes.now ≤ 8 }
+{
+    wire::padded(bytes)
 }
 
 // A colour and a word, low byte first.
 pub fn color_and_raw(c: Color, raw: u16) -> [u8; 8] {
-    five(c.r, c.g, c.b, (raw % 256) as u8, (raw / 256) as u8)
+    let [low, high] = raw.to_le_bytes();
+    told(&[c.r, c.g, c.b, low, high])
 }
 
 // The parts of an attribute byte.
 fn attribs(byte: u8) -> [u8; 8] {
     let a = BgAttribute::new(byte);
-    five(
+    told(&[
         a.bank(),
         a.palette(),
-        a.is_horizontal_flip() as u8,
-        a.is_vertical_flip() as u8,
-        a.priority() as u8,
-    )
+        u8::from(a.is_horizontal_flip()),
+        u8::from(a.is_vertical_flip()),
+        u8::from(a.priority()),
+    ])
 }
 
 // The sprite in bytes 1 to 4 of a request.
@@ -46,9 +49,9 @@ fn sprite_parts(s: Sprite) -> [u8; 8] {
         s.screen_y(),
         s.screen_x(),
         s.dmg_palette(),
-        s.bg_priority() as u8,
-        s.y_flipped() as u8,
-        s.x_flipped() as u8,
+        u8::from(s.bg_priority()),
+        u8::from(s.y_flipped()),
+        u8::from(s.x_flipped()),
         s.cgb_palette(),
         s.bank(),
     ]
@@ -62,32 +65,26 @@ fn in_range(y: u8, line: u8, tall: u8) -> [u8; 8] {
         tile: 0,
         flags: 0,
     };
-    five(s.in_range(line, tall) as u8, 0, 0, 0, 0)
+    told(&[u8::from(s.in_range(line, tall))])
 }
 
 // A byte of an entry, and the entry after a write there.
-fn at_offset(s: Sprite, offset: u8, data: u8) -> [u8; 8] {
+fn at_offset(s: Sprite, offset: u8, value: u8) -> [u8; 8] {
     let before = s.get_at_offset(offset % 4);
-    let after = s.set_at_offset(offset % 4, data);
-    five(before, after.y, after.x, after.tile, after.flags)
+    let after = s.set_at_offset(offset % 4, value);
+    told(&[before, after.y, after.x, after.tile, after.flags])
 }
 
 // The colour of a word, and the word of it again.
-fn from_raw(low: u8, high: u8) -> [u8; 8] {
-    let color = Color::from_raw(low as u16 + high as u16 * 256);
+fn from_raw(raw: u16) -> [u8; 8] {
+    let color = Color::from_raw(raw);
     color_and_raw(color, color.to_raw())
-}
-
-// The word of a colour.
-fn to_raw(c: Color) -> [u8; 8] {
-    let raw = c.to_raw();
-    five((raw % 256) as u8, (raw / 256) as u8, 0, 0, 0)
 }
 
 // A colour as the display mixes it.
 pub fn mix(c: Color) -> [u8; 8] {
     let p = lcd::mixed(c);
-    five(p.red, p.green, p.blue, 0, 0)
+    told(&[p.red, p.green, p.blue])
 }
 
 // Bytes 1 to 3 of a request as a colour.
@@ -101,20 +98,20 @@ fn color_of(q: [u8; 8]) -> Color {
 
 // The shade of a colour, modulo 4, by a palette byte.
 fn shade(palette: u8, color: u8) -> [u8; 8] {
-    five(colors::shade_of(palette, color % 4), 0, 0, 0, 0)
+    told(&[colors::shade_of(palette, color % 4)])
 }
 
-// The answer to a request that keeps no state.
+// The answer to a request that keeps no state, by its kind: the numbers are the list's own format.
 pub fn answer(q: [u8; 8]) -> [u8; 8] {
     match q[0] {
         1 => attribs(q[1]),
         2 => sprite_parts(sprite_of(q)),
         3 => in_range(q[1], q[2], q[3]),
         4 => at_offset(sprite_of(q), q[5], q[6]),
-        8 => from_raw(q[1], q[2]),
-        9 => to_raw(color_of(q)),
+        8 => from_raw(u16::from_le_bytes([q[1], q[2]])),
+        9 => told(&color_of(q).to_raw().to_le_bytes()),
         10 => mix(color_of(q)),
         17 => shade(q[1], q[2]),
-        _ => unknown(),
+        _ => UNKNOWN,
     }
 }

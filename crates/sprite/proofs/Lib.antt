@@ -3,3 +3,5 @@
 pub mod Those
 -- the slots of a selection, filled one by one
 pub mod Slots
+-- that the answer to a pick is told by what its promise speaks of
+pub mod Tells

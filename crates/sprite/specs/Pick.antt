@@ -1,11 +1,12 @@
 -- Pan Docs, "Selection priority": of the entries in range of a line the first ten, in OAM's order.
-use Rattle.std.specs.Prelude.{ℕ, zero, suc, Bool, true, cond, ◌&&◌, ◌||◌, List, [], ◌∷◌, ◌++◌, map, eqb, ltb, length, take, drop, replicate}
+use Rattle.std.specs.Prelude.{ℕ, zero, suc, Bool, true, cond, ◌&&◌, ◌||◌, List, [], ◌∷◌, ◌++◌, map, eqb, ltb, length, take, drop, replicate, Result, Ok, Err}
 use Rattle.refusals.specs.Ladder.{lowest, own, done}
+use Rattle.refusals.specs.Refused.{refusal_number}
+use Rattle.refusals.specs.declared.Refusal.{Refusal}
 use Rattle.hardware.specs.Screen.{height}
 use Rattle.hardware.specs.Tables.{oam_fits}
 use Rattle.sprite.specs.declared.SelectedSprite.{SelectedSprite}
 use Rattle.sprite.specs.declared.Selection.{Selection}
-use Rattle.sprite.specs.declared.Picked.{Picked}
 use Rattle.sprite.specs.Oam.{entry, in_range}
 
 -- 0 to n - 1
@@ -55,12 +56,22 @@ pickable line tall = ltb line height && is_tall tall
 unfoldable pub pick_number : List ℕ → ℕ → ℕ → ℕ
 pick_number oam line tall = lowest (oam_fits oam) true (own (pickable line tall) 4)
 
+-- a pick by its number, and what was picked
+pub record Picked : Type 0 where
+  pub number : ℕ
+  pub selection : Selection
+
 -- refused, nothing is picked
 abbrev pub nothing_picked : Selection
 nothing_picked = record { count = 0; slots = blank_slots }
 
 abbrev pub refused_pick : ℕ → Picked
 refused_pick n = record { number = n; selection = nothing_picked }
+
+-- what a pick answers
+abbrev pub picked : Result Selection Refusal → Picked
+picked (Ok selection) = record { number = 0; selection = selection }
+picked (Err why) = refused_pick (refusal_number why)
 
 -- the answer: the number, and what a search of blank slots leaves
 unfoldable pub pick_of : List ℕ → ℕ → ℕ → Picked

@@ -5,9 +5,11 @@ ghost use Rattle.std.specs.Prelude.{◌≡◌, ◌<◌, ◌*◌, ◌+◌, length
 ghost use Rattle.hardware.specs.Tables.{oam_bytes};
 ghost use Rattle.sprite.specs.Oam.{entry, screen_y, screen_x, in_range, entry_bytes, moved_left};
 ghost use Rattle.sprite.specs.Oam.{colour_palette, bank_of, grey_palette, x_flip, y_flip, behind};
-ghost use Rattle.sprite.specs.Pick.{selection, blank_slots, is_tall, pickable, pick_number, refused_pick, pick_of};
+ghost use Rattle.sprite.specs.Pick.{selection, blank_slots, is_tall, pickable, pick_number, pick_of, picked};
+ghost use Rattle.refusals.specs.Refused.{number_of};
 
 use hardware::Machine;
+use refusals::{Refusal, need};
 
 // The four bytes of an entry of OAM.
 #[derive(Clone, Copy)]
@@ -135,7 +137,8 @@ impl SelectedSprite {
     }
 }
 
-// The entries that a search picked: the first `count` of the slots.
+// The entries that a search picked: the first `count` of the slots. An array with a count, since nothing here allocates, and since
+// docs/01-scope.md has the slots past the count keep their content.
 #[derive(Clone, Copy)]
 pub struct Selection {
     pub count: u8,
@@ -149,6 +152,7 @@ pub fn select(oam: &[u8], line: u8, tall: u8, former: [SelectedSprite; 10]) -> S
 {
     let mut slots = former;
     let mut count: usize = 0;
+    // A labelled loop over forty entries, as docs/01-scope.md ("the search ends at the tenth") names it.
     'search: for i in 0..40 {
         let sprite = Sprite::at(oam, i);
         if sprite.in_range(line, tall) {
@@ -168,13 +172,6 @@ pub fn select(oam: &[u8], line: u8, tall: u8, former: [SelectedSprite; 10]) -> S
     }
 }
 
-// The answer to a pick: 01's number, and what was picked.
-#[derive(Clone, Copy)]
-pub struct Picked {
-    pub number: u8,
-    pub selection: Selection,
-}
-
 // Ten slots of nothing.
 pub fn blank() -> [SelectedSprite; 10]
     ensures { result ≡ blank_slots }
@@ -191,53 +188,34 @@ pub fn blank() -> [SelectedSprite; 10]
     }; 10]
 }
 
-fn refused(number: u8) -> Picked
-    ensures { result ≡ refused_pick number }
-{
-    let slots = blank();
-    let selection = Selection { count: 0, slots };
-    Picked { number, selection }
-}
-
 // Whether sprites can be so tall.
 pub fn is_tall(tall: u8) -> bool
     ensures { result ≡ is_tall tall }
 {
-    if tall == 8 {
-        return true;
-    }
-    tall == 16
+    tall == 8 || tall == 16
 }
 
 // Whether a line is of the picture, and sprites can be so tall.
 fn is_pickable(line: u8, tall: u8) -> bool
     ensures { result ≡ pickable line tall }
 {
-    if line as usize >= Machine::HEIGHT {
-        return false;
-    }
-    is_tall(tall)
+    (line as usize) < Machine::HEIGHT && is_tall(tall)
 }
 
-// The number of a pick.
-fn pick_number(oam: &[u8], line: u8, tall: u8) -> u8
-    ensures { result ≡ pick_number oam.now line tall }
+// Whether a pick is refused: by 1 or 4.
+fn allow_pick(oam: &[u8], line: u8, tall: u8) -> Result<(), Refusal>
+    ensures { number_of result ≡ pick_number oam.now line tall }
 {
-    let own = refusals::own(is_pickable(line, tall), 4);
-    refusals::lowest(oam.len() == Machine::OAM_BYTES, true, own)
+    need(oam.len() == Machine::OAM_BYTES, Refusal::Length)?;
+    need(is_pickable(line, tall), Refusal::Argument)
 }
 
 // The ten lowest entries in range of a line, in slots that are 0 past the count; refused by 1 or 4.
-pub fn pick(oam: &[u8], line: u8, tall: u8) -> Picked
-    ensures { result ≡ pick_of oam.now line tall }
+pub fn pick(oam: &[u8], line: u8, tall: u8) -> Result<Selection, Refusal>
+    ensures { picked result ≡ pick_of oam.now line tall }
 {
-    let number = pick_number(oam, line, tall);
-    if number != 0 {
-        return refused(number);
-    }
-    let slots = blank();
-    let selection = select(oam, line, tall, slots);
-    Picked { number, selection }
+    allow_pick(oam, line, tall)?;
+    Ok(select(oam, line, tall, blank()))
 }
 
 // The colours of a sprite at x: below 8 they move left by 8 - x, and 0s follow.
@@ -247,12 +225,8 @@ pub fn move_left(colors: [u8; 8], x: u8) -> [u8; 8]
     if x >= 8 {
         return colors;
     }
-    let by = 8 - x as usize;
-    let mut out = [0u8; 8];
-    let mut i = 0;
-    while i + by < 8 {
-        out[i] = colors[i + by];
-        i += 1;
-    }
+    let kept = x as usize;
+    let mut out = [0; 8];
+    out[..kept].copy_from_slice(&colors[8 - kept..]);
     out
 }

@@ -1,16 +1,16 @@
 -- A state with one group put in place of what it had, a group with one field, and the mode that STAT holds. Every rule that
 -- changes a part of the state is said with these.
-use Rattle.std.specs.Prelude.{ℕ, ◌+◌, ◌*◌, ◌/◌, ◌%◌, Bool, cond}
+use Rattle.std.specs.Prelude.{ℕ, ◌+◌, ◌*◌, ◌/◌, ◌%◌, Bool, cond, Option}
 use Rattle.sprite.specs.declared.Selection.{Selection}
 use Rattle.fifo.specs.declared.BgFifo.{BgFifo}
 use Rattle.fifo.specs.declared.SpriteFifo.{SpriteFifo}
 use Rattle.state.specs.declared.Registers.{Registers}
 use Rattle.state.specs.declared.Palettes.{Palettes}
-use Rattle.state.specs.declared.Waiting.{Waiting}
 use Rattle.state.specs.declared.Fetcher.{Fetcher}
 use Rattle.state.specs.declared.Pipe.{Pipe}
 use Rattle.state.specs.declared.Beam.{Beam}
 use Rattle.state.specs.declared.State.{State}
+use Rattle.bg_attribs.specs.declared.BgAttribute.{BgAttribute}
 
 -- the groups of the state; the machine stays as the start fixed it
 abbrev pub with_registers : State → Registers → State
@@ -108,7 +108,7 @@ with_delay f delay = record { delay = delay; column = f.column; row = f.row; wai
 abbrev pub with_column : Fetcher → ℕ → Fetcher
 with_column f column = record { delay = f.delay; column = column; row = f.row; waiting = f.waiting }
 
-abbrev pub with_waiting : Fetcher → Waiting → Fetcher
+abbrev pub with_waiting : Fetcher → Option BgAttribute → Fetcher
 with_waiting f waiting = record { delay = f.delay; column = f.column; row = f.row; waiting = waiting }
 
 -- the pipe: the fetcher, both queues, in the window or out, the window's row, and what is to be discarded

@@ -33,20 +33,14 @@ pub struct Palettes {
     pub obj: PaletteSet,
 }
 
-// A fetched row that waits, by its attribute; its colours stand beside it.
-#[derive(Clone, Copy)]
-pub enum Waiting {
-    Row(BgAttribute),
-    Nothing,
-}
-
-// The fetcher: cycles to the next fetch, the fetch column, and what was fetched.
+// The fetcher: cycles to the next fetch, the fetch column, the row that was fetched, and its attribute while it waits. The row stands
+// beside it, and not in the `Option`: docs/01-scope.md, "the fetched row stands beside it".
 #[derive(Clone, Copy)]
 pub struct Fetcher {
     pub delay: u8,
     pub column: u8,
     pub row: [u8; 8],
-    pub waiting: Waiting,
+    pub waiting: Option<BgAttribute>,
 }
 
 // What a draw works on: the fetcher, the two queues, whether it is in the window and the window's row, and how many

@@ -1,17 +1,17 @@
 -- 01, "One step": the whole of it, and what it answers.
-use Rattle.std.specs.Prelude.{ℕ, ◌+◌, ◌≡◌, Bool, false, not, cond, ◌&&◌, List, []}
+use Rattle.std.specs.Prelude.{ℕ, ◌+◌, ◌≡◌, Bool, false, not, cond, ◌&&◌, List, [], Option}
 use Rattle.wrap.specs.Wrap.{bit_at}
 use Rattle.hardware.specs.Tables.{Tables}
 use Rattle.lcd.specs.Pictures.{Pictures}
 use Rattle.state.specs.With.{mode_of}
 use Rattle.state.specs.declared.State.{State}
-use Rattle.draw.specs.declared.Shot.{Shot}
 use Rattle.modes.specs.Modes.{entered, mode_level, searched, level_of, compared, rests}
 use Rattle.burst.specs.Burst.{Burst, burst, drawn_into}
 use Rattle.beam.specs.Advance.{swaps, advanced}
 use Rattle.beam.specs.Marks.{mark_of}
 use Rattle.beam.specs.declared.Mark.TheVariants.{No}
 use Rattle.step.specs.declared.Report.{Report}
+use Rattle.draw.specs.declared.Place.{Place}
 
 -- LCDC bit 7: the display is on
 abbrev pub lit : State → Bool
@@ -34,7 +34,7 @@ unfoldable pub stepped : ℕ → Tables → State → State
 stepped n t s = cond (lit s) (advanced n (settled n t s)) s
 
 -- what the draws of a step answered, in order
-unfoldable pub shots_of : ℕ → Tables → State → List Shot
+unfoldable pub shots_of : ℕ → Tables → State → List (Option Place)
 shots_of n t s = cond (lit s) (working n t s).shots []
 
 -- they are stored in the picture that is not shown

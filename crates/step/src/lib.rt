@@ -1,4 +1,5 @@
 // One step: the mode that begins, the draws with their places, the STAT level, the beam, and the answer.
+// Lent memory comes buffer by buffer, and in no struct: `&` and `&mut` tell of each what a call may do with it.
 #![tactic(auto)]
 
 ghost use Rattle.std.specs.Prelude.{◌≡◌, not, ◌&&◌, ◌<◌, ◌≤◌, ◌+◌, length};

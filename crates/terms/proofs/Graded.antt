@@ -5,15 +5,10 @@ use Prim.Native.Nat.{ℕ}
 use Rattle.refusals.specs.Ladder.{lowest}
 use Rattle.refusals.proofs.Ladder.{lowest_none}
 use Rattle.state.specs.declared.State.{State}
-use Rattle.order.specs.Order.{in_order, Judged}
+use Rattle.order.specs.Order.{in_order}
 use Rattle.order.specs.Fine.{Fine}
 use Rattle.order.proofs.Clauses.{fine}
 use Rattle.terms.specs.Numbers.{Graded}
-
--- the ladder on answers of the tests
-pub graded : {s : State} {sized fit ordered : Bool} {own n r : ℕ}
-    → r ≡ lowest fit ordered n → fit ≡ sized → Judged s ordered → n ≡ own → Graded s (lowest sized (in_order s) own) r
-graded e f j o = record { number = e ∙ rw (f, j.answer, o); shape = j.shape }
 
 -- no number: the state is in order, what is lent has its lengths, the call's own test passed
 pub record Allowed (s : State) (b : Bool) (n : ℕ) : Type 0 where

@@ -1,15 +1,21 @@
-// The terms of the public calls: whether what is lent, the state and the other arguments are within 01's table, and the number
-// of each call. No function asks anything of its caller.
+// The terms of the public calls: whether what is lent, the state and the other arguments are within 01's table, and for each call
+// why it is refused. No function asks anything of its caller.
+// Lent memory comes buffer by buffer, and in no struct: `&` and `&mut` tell of each what a call may do with it.
 #![tactic(auto)]
 
-ghost use Rattle.std.specs.Prelude.{◌≡◌, true, ◌&&◌};
+ghost use Rattle.std.specs.Prelude.{◌≡◌, true, ◌&&◌, IfOk};
 ghost use Rattle.hardware.specs.Tables.{tables, tables_fit};
 ghost use Rattle.lcd.specs.Pictures.{pictures, pictures_fit};
+ghost use Rattle.oam_bug.specs.Kinds.{is_kind, kind_number as kind_number_of};
+ghost use Rattle.refusals.specs.Ladder.{own};
+ghost use Rattle.refusals.specs.Refused.{number_of};
 ghost use Rattle.registers.specs.Registers.{listed};
 ghost use Rattle.terms.specs.Numbers.{paced, in_oam, timely, step_number, write_number, read_number};
 ghost use Rattle.terms.specs.Numbers.{vram_number, oam_number, locked_oam_number, colour_number, kind_number, shown_number, Graded};
 
 use hardware::Machine;
+use oam_bug::Kind;
+use refusals::{Refusal, need};
 use state::State;
 
 // Whether both tables have their length.
@@ -83,93 +89,99 @@ fn is_listed(address: u16) -> bool
     registers::kept_bits(address) != 0
 }
 
-// The number of a step: refused by 1, 2, 3.
-pub fn step_number(s: State, vram: &[u8], oam: &[u8], a: &[u8], b: &[u8], cycles: u8) -> u8
+// A step: refused by 1, 2, 3.
+pub fn step(
+    s: State,
+    vram: &[u8],
+    oam: &[u8],
+    a: &[u8],
+    b: &[u8],
+    cycles: u8,
+) -> Result<(), Refusal>
     ensures { Graded s (step_number s (tables vram.now oam.now)
-        (pictures a.now b.now) cycles) result }
+        (pictures a.now b.now) cycles) (number_of result) }
 {
-    let sized = all_fit(vram, oam, a, b);
-    refusals::lowest(
-        sized,
-        order::in_order(s),
-        refusals::own(is_paced(s.beam.cycle, cycles), 3),
-    )
+    need(all_fit(vram, oam, a, b), Refusal::Length)?;
+    need(order::in_order(s), Refusal::State)?;
+    need(is_paced(s.beam.cycle, cycles), Refusal::Pace)
 }
 
-// The number of a register write: refused by 1, 2, 4.
-pub fn write_number(s: State, a: &[u8], b: &[u8], address: u16) -> u8
-    ensures { Graded s (write_number s (pictures a.now b.now) address) result }
+// A register write: refused by 1, 2, 4.
+pub fn write(s: State, a: &[u8], b: &[u8], address: u16) -> Result<(), Refusal>
+    ensures { Graded s (write_number s (pictures a.now b.now) address) (number_of result) }
 {
-    refusals::lowest(
-        pictures_fit(a, b),
-        order::in_order(s),
-        refusals::own(is_listed(address), 4),
-    )
+    need(pictures_fit(a, b), Refusal::Length)?;
+    need(order::in_order(s), Refusal::State)?;
+    need(is_listed(address), Refusal::Argument)
 }
 
-// The number of a register read: refused by 2, 4.
-pub fn read_number(s: State, address: u16) -> u8
-    ensures { Graded s (read_number s address) result }
+// A register read: refused by 2, 4.
+pub fn read(s: State, address: u16) -> Result<(), Refusal>
+    ensures { Graded s (read_number s address) (number_of result) }
 {
-    refusals::lowest(
-        true,
-        order::in_order(s),
-        refusals::own(registers::is_readable(address), 4),
-    )
+    need(order::in_order(s), Refusal::State)?;
+    need(registers::is_readable(address), Refusal::Argument)
 }
 
-// The number of a VRAM write: refused by 1, 2.
-pub fn vram_number(s: State, vram: &[u8]) -> u8
-    ensures { Graded s (vram_number s vram.now) result }
+// A VRAM write, and a locked VRAM call, write or read: refused by 1, 2.
+pub fn vram(s: State, vram: &[u8]) -> Result<(), Refusal>
+    ensures { Graded s (vram_number s vram.now) (number_of result) }
 {
-    refusals::lowest(vram.len() == Machine::VRAM_BYTES, order::in_order(s), 0)
+    need(vram.len() == Machine::VRAM_BYTES, Refusal::Length)?;
+    need(order::in_order(s), Refusal::State)
 }
 
-// The number of an OAM write: refused by 1, 4.
-pub fn oam_number(oam: &[u8], address: u16) -> u8
-    ensures { result ≡ oam_number oam.now address }
+// An OAM write: refused by 1, 4.
+pub fn oam(oam: &[u8], address: u16) -> Result<(), Refusal>
+    ensures { number_of result ≡ oam_number oam.now address }
 {
-    refusals::lowest(
-        oam.len() == Machine::OAM_BYTES,
-        true,
-        refusals::own(is_in_oam(address), 4),
-    )
+    need(oam.len() == Machine::OAM_BYTES, Refusal::Length)?;
+    need(is_in_oam(address), Refusal::Argument)
 }
 
-// The number of a locked OAM call, write or read: refused by 1, 2, 4.
-pub fn locked_oam_number(s: State, oam: &[u8], address: u16) -> u8
-    ensures { Graded s (locked_oam_number s oam.now address) result }
+// A locked OAM call, write or read: refused by 1, 2, 4.
+pub fn locked_oam(s: State, oam: &[u8], address: u16) -> Result<(), Refusal>
+    ensures { Graded s (locked_oam_number s oam.now address) (number_of result) }
 {
-    refusals::lowest(
-        oam.len() == Machine::OAM_BYTES,
-        order::in_order(s),
-        refusals::own(is_in_oam(address), 4),
-    )
+    need(oam.len() == Machine::OAM_BYTES, Refusal::Length)?;
+    need(order::in_order(s), Refusal::State)?;
+    need(is_in_oam(address), Refusal::Argument)
 }
 
-// The number of the colour flag: refused by 2.
-pub fn colour_number(s: State) -> u8
-    ensures { Graded s (colour_number s) result }
+// The colour flag: refused by 2.
+pub fn colour(s: State) -> Result<(), Refusal>
+    ensures { Graded s (colour_number s) (number_of result) }
 {
-    refusals::lowest(true, order::in_order(s), 0)
+    need(order::in_order(s), Refusal::State)
 }
 
-// The number of a corruption of a kind: refused by 1, 2, 4, 5.
-pub fn kind_number(s: State, oam: &[u8], kind: u8) -> u8
-    ensures { Graded s (kind_number s oam.now kind) result }
+// The kind of corruption that a number means: refused by 4.
+fn known_kind(number: u8) -> Result<Kind, Refusal>
+    ensures number { number_of result ≡ own (is_kind number) 4 }
+    ensures kind { IfOk result (λ kind. kind_number_of kind ≡ number) }
 {
-    let lower = refusals::own(oam_bug::is_kind(kind), 4);
-    let higher = refusals::own(is_timely(s), 5);
-    refusals::lowest(
-        oam.len() == Machine::OAM_BYTES,
-        order::in_order(s),
-        refusals::first(lower, higher),
-    )
+    match Kind::try_from(number) {
+        Ok(kind) => Ok(kind),
+        Err(_) => Err(Refusal::Argument),
+    }
 }
 
-// The number of a picture asked for: refused by 1, 2.
-pub fn shown_number(s: State, a: &[u8], b: &[u8]) -> u8
-    ensures { result ≡ shown_number s (pictures a.now b.now) }
+// A corruption, and its kind by its number: refused by 1, 2, 4, 5.
+pub fn kind(s: State, oam: &[u8], number: u8) -> Result<Kind, Refusal>
+    ensures number { Graded s (kind_number s oam.now number) (number_of result) }
+    ensures kind { IfOk result (λ kind. kind_number_of kind ≡ number) }
 {
-    refusals::lowest(pictures_fit(a, b), order::in_order(s), 0)
+    need(oam.len() == Machine::OAM_BYTES, Refusal::Length)?;
+    need(order::in_order(s), Refusal::State)?;
+    let kind = known_kind(number)?;
+    need(is_timely(s), Refusal::Time)?;
+    Ok(kind)
+}
+
+// A picture asked for: refused by 1, 2.
+pub fn shown(s: State, a: &[u8], b: &[u8]) -> Result<(), Refusal>
+    ensures { number_of result ≡ shown_number s (pictures a.now b.now) }
+{
+    need(pictures_fit(a, b), Refusal::Length)?;
+    need(order::in_order(s), Refusal::State)
 }

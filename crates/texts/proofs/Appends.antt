@@ -1,33 +1,15 @@
 -- Bytes put into a slice from a place on.
-use mathlib.Core.Path.{◌≡◌, refl, ap, sym, ◌∙◌}
-use mathlib.Core.List.{List, [], ◌++◌, append_assoc, append-nil}
-use Prim.Native.Nat.{ℕ, ◌+◌, ◌-◌, ◌≤◌}
+use mathlib.Core.Path.{◌≡◌, ap, sym, ◌∙◌}
+use mathlib.Core.List.{List, ◌++◌, append_assoc}
+use Prim.Native.Nat.{ℕ, ◌+◌}
 use native.Mathlib.Omega.{arith}
-use lib.ListN.{length, take, drop, length-append, length-take, length-drop}
-use lib.Seq.{sets, sets-eq, take_at, drop_at, drop-drop, take-add, length-take-le}
-use Rattle.texts.specs.Appended.{Appended, IsPrefixLen}
+use lib.ListN.{length, take, drop, length-append}
+use lib.Seq.{drop-drop}
+use Rattle.texts.specs.Appended.{Appended}
 use Rattle.texts.specs.Laws.{AppendedBoth}
 
--- from the parts of what is left
-pub from_parts : (a b : List ℕ) (i : ℕ) (x : List ℕ) → i + length x ≤ length a → b ≡ take i a ++ x ++ drop (i + length x) a
-    → Appended a b i (i + length x) x
-from_parts a b i x fits e =
-    let start : length (take i a) ≡ i = length-take-le i a (omega arith) in
-    let front : length (take i a ++ x) ≡ i + length x = length-append (take i a) x ∙ ap (λ (n : ℕ). n + length x) start in
-    record {
-      behind = refl;
-      written = rw e (take_at (take i a ++ x) (drop (i + length x) a) (i + length x) front);
-      kept = rw e (drop_at (take i a ++ x) (drop (i + length x) a) (i + length x) front);
-      sized =
-          rw (e, length-append (take i a ++ x) (drop (i + length x) a), front, length-drop (i + length x) a) (omega arith);
-    }
-
--- a run of stores
-pub stores : (a : List ℕ) (i : ℕ) (x : List ℕ) → i + length x ≤ length a → Appended a (sets a i x) i (i + length x) x
-stores a i x fits = from_parts a (sets a i x) i x fits (sets-eq x a i fits)
-
 -- two one behind the other
-pub then : {a b c : List ℕ} {from mid to : ℕ} {x y : List ℕ} → Appended a b from mid x → Appended b c mid to y → Appended a c from to (x ++ y)
+then : {a b c : List ℕ} {from mid to : ℕ} {x y : List ℕ} → Appended a b from mid x → Appended b c mid to y → Appended a c from to (x ++ y)
 then {a} {b} {c} {from} {mid} {to} {x} {y} p q =
     let far : to ≡ mid + length y = q.behind in
     record {
@@ -39,23 +21,3 @@ then {a} {b} {c} {from} {mid} {to} {x} {y} p q =
 
 pub both : AppendedBoth
 both a b c from mid to x y p q = then p q
-
--- nothing
-pub nothing : (a : List ℕ) (i : ℕ) → Appended a a i i []
-nothing a i = record { behind = omega arith; written = sym (append-nil (take i a)); kept = refl; sized = refl }
-
--- read again
-pub again : {a b : List ℕ} {from to : ℕ} {x : List ℕ} → Appended a b from to x → from ≤ length a → take (to - from) (drop from b) ≡ x
-again {a} {b} {from} {to} {x} p fits =
-    let count : to - from ≡ length x = omega (arith, p.behind) in
-    let whole : take from b ++ take (length x) (drop from b) ≡ take from a ++ x = sym (take-add from (length x) b) ∙ rw (sym p.behind) p.written in
-    rw count
-    (sym (drop_at (take from b) (take (length x) (drop from b)) from (length-take-le from b (omega (arith, p.sized))))
-    ∙ ap (drop from) whole ∙ drop_at (take from a) x from (length-take-le from a fits))
-
--- what is put at the start of a buffer is its first bytes
-pub at_start : {before after : List ℕ} {to : ℕ} {bytes : List ℕ} → Appended before after 0 to bytes
-    → IsPrefixLen to after × (take to after ≡ bytes)
-at_start {after = after} {to = to} p =
-    let held : to ≡ length (take to after) = omega (arith, p.behind, ap length p.written) in
-    ((omega (arith, held, length-take to after), held), p.written)

@@ -1,2 +1,3 @@
 pub mod Appends
+pub mod Puts
 pub mod Numbers

@@ -1,31 +1,97 @@
-// Bytes put into a slice one behind the other, and numbers as text. Each function that puts answers the place behind what it put.
+// Bytes put one behind the other, and numbers as text.
 #![tactic(auto)]
 
-ghost use Rattle.std.specs.Prelude.{◌≡◌, [], ◌∷◌, ◌+◌, ◌≤◌, ◌<◌, length};
-ghost use Rattle.texts.specs.Appended.{Appended};
+ghost use Rattle.std.specs.Prelude.{◌≡◌, ℕ, List, [], ◌∷◌, ◌++◌, ◌+◌, ◌≤◌, ◌<◌, length, take};
 ghost use Rattle.texts.specs.Numbers.{digits, decimal};
 ghost use Rattle.texts.specs.Numbers.{letter as letterOf, places as places_of};
 
-// A byte at a place.
-pub fn put_byte(out: &mut [u8], at: usize, byte: u8) -> usize
-    requires { at < length out.old }
-    ensures { Appended out.old out.new at result (byte ∷ []) }
-{
-    out[at] = byte;
-    at + 1
+use std::marker::Model;
+
+// Bytes put one behind the other, at most N.
+#[derive(Drop)]
+pub struct Text<const N: usize> {
+    bytes: [u8; N],
+    len: usize,
 }
 
-// Bytes from a place on.
-pub fn put_bytes(out: &mut [u8], at: usize, bytes: &[u8]) -> usize
-    requires { at + length bytes.now ≤ length out.old }
-    ensures { Appended out.old out.new at result bytes.now }
-{
-    let mut i = 0;
-    while i < bytes.len() {
-        out[at + i] = bytes[i];
-        i += 1;
+// A clause sees the bytes that were put.
+impl<const N: usize> Model for Text<N> {
+    ghost Value = { List ℕ };
+
+    ghost view = { λ t. take t.len t.bytes };
+
+    ghost invariant = { λ t. t.len ≤ N };
+}
+
+impl<const N: usize> Text<N> {
+    // No bytes.
+    pub fn new() -> Self
+        ensures { result ≡ [] }
+    {
+        Text {
+            bytes: [0; N],
+            len: 0,
+        }
     }
-    at + i
+
+    // The bytes.
+    pub fn as_bytes(&self) -> &[u8]
+        ensures value { result.now ≡ self.now }
+        ensures fits { length self.now ≤ N }
+    {
+        &self.bytes[..self.len]
+    }
+
+    // No bytes any more.
+    pub fn clear(&mut self)
+        ensures { self.new ≡ [] }
+    {
+        self.len = 0;
+    }
+
+    // A byte.
+    pub fn put_byte(&mut self, byte: u8)
+        requires { length self.old < N }
+        ensures put { self.new ≡ self.old ++ byte ∷ [] }
+        ensures len { length self.new ≡ length self.old + 1 }
+    {
+        self.bytes[self.len] = byte;
+        self.len += 1;
+    }
+
+    // Bytes.
+    pub fn put(&mut self, bytes: &[u8])
+        requires { length self.old + length bytes.now ≤ N }
+        ensures put { self.new ≡ self.old ++ bytes.now }
+        ensures len { length self.new ≡ length self.old + length bytes.now }
+    {
+        let end = self.len + bytes.len();
+        let room = &mut self.bytes[..];
+        room[self.len..end].copy_from_slice(bytes);
+        self.len = end;
+    }
+
+    // The last k digits of a number: those before the last, then the last.
+    pub fn put_digits(&mut self, n: u64, base: u64, k: usize)
+        requires { (0 < base) × (base ≤ 16) × (length self.old + k ≤ N) }
+        ensures put { self.new ≡ self.old ++ digits base k n }
+        ensures len { length self.new ≡ length self.old + k }
+    {
+        if k > 0 {
+            self.put_digits(n / base, base, k - 1);
+            self.put_byte(letter(n % base));
+        }
+    }
+
+    // A decimal number with no zeros in front.
+    pub fn put_decimal(&mut self, n: u32)
+        requires { length self.old + 10 ≤ N }
+        ensures put { self.new ≡ self.old ++ decimal n }
+        ensures most { length self.new ≤ length self.old + 10 }
+    {
+        let number = n as u64;
+        self.put_digits(number, 10, places(number, 9));
+    }
 }
 
 // A digit's letter.
@@ -33,19 +99,11 @@ fn letter(d: u64) -> u8
     requires { d < 16 }
     ensures { result ≡ letterOf d }
 {
-    if d < 10 { 48 + d as u8 } else { 55 + d as u8 }
-}
-
-// The last k digits of a number: those before the last, then the last.
-pub fn put_digits(out: &mut [u8], at: usize, n: u64, base: u64, k: usize) -> usize
-    requires { (0 < base) × (base ≤ 16) × (at + k ≤ length out.old) }
-    ensures { Appended out.old out.new at result (digits base k n) }
-{
-    if k == 0 {
-        return at;
+    if d < 10 {
+        b'0' + d as u8
+    } else {
+        b'A' + (d as u8 - 10)
     }
-    let last = put_digits(out, at, n / base, base, k - 1);
-    put_byte(out, last, letter(n % base))
 }
 
 // How many decimal digits a number has, one at least and at most one more than `more`.
@@ -53,21 +111,8 @@ fn places(n: u64, more: usize) -> usize
     requires { more < 10 }
     ensures { (result ≡ places_of more n) × (result ≤ 1 + more) }
 {
-    if more == 0 {
-        return 1;
-    }
-    if n < 10 {
+    if more == 0 || n < 10 {
         return 1;
     }
     1 + places(n / 10, more - 1)
-}
-
-// A decimal number with no zeros in front.
-pub fn put_decimal(out: &mut [u8], at: usize, n: u32) -> usize
-    requires { at + 10 ≤ length out.old }
-    ensures { Appended out.old out.new at result (decimal n) }
-{
-    let number = n as u64;
-    let k = places(number, 9);
-    put_digits(out, at, number, 10, k)
 }

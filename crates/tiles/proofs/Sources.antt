@@ -1,4 +1,5 @@
 -- Without its source a row is what it was before, and a source is true (specs/Laws).
+use Rattle.std.proofs.Common.{Some}
 use mathlib.Core.Path.{◌≡◌, refl}
 use mathlib.Core.Bool.{Bool, true, false, not, cond}
 use mathlib.Core.List.{List}
@@ -16,7 +17,6 @@ use Rattle.tiles.specs.Objects.{sprite_row, sprite_colours}
 use Rattle.tiles.specs.Sources.{pattern_row, fetched_at, nothing_fetched, fetched_row, sprite_tile_row, started_row}
 use Rattle.tiles.specs.Laws.{Dropped, Inside, side_by_side, Told, TrueFetch, made_by, TrueStart, was_read, SourcesTrue}
 use Rattle.tiles.specs.declared.Address.{Address}
-use Rattle.tiles.specs.declared.Source.TheVariants.{ReadAt}
 use Rattle.tiles.specs.declared.Fetch.{Fetch}
 use Rattle.tiles.specs.declared.FetchedRow.{FetchedRow}
 
@@ -65,7 +65,7 @@ together vram a i =
 
 -- what was made of the row at an address was made of the two bytes there
 told : (vram : List ℕ) (made : List ℕ → List ℕ) (bits address : ℕ) → address % 2 ≡ 0
-    → Told vram made (made (row_at vram (in_bank (digit_at bits 3) address))) (ReadAt (in_bank (digit_at bits 3) address))
+    → Told vram made (made (row_at vram (in_bank (digit_at bits 3) address))) (Some (in_bank (digit_at bits 3) address))
 told vram made bits address even =
     let i = inside bits address even in
     (i, rw (together vram (in_bank (digit_at bits 3) address) i))

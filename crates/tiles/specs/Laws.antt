@@ -1,5 +1,5 @@
 -- What a source is good for, of the definitions alone.
-use Rattle.std.specs.Prelude.{ℕ, ◌+◌, ◌*◌, ◌≤◌, ◌<◌, ◌≡◌, Bool, true, false, not, cond, List, get_or, replicate}
+use Rattle.std.specs.Prelude.{ℕ, ◌+◌, ◌*◌, ◌≤◌, ◌<◌, ◌≡◌, Bool, true, false, not, cond, List, get_or, replicate, Option, Some, None}
 use Rattle.hardware.specs.Tables.{bank_bytes}
 use Rattle.bg_attribs.specs.Attribute as attribute
 use Rattle.sprite.specs.Oam as oam
@@ -9,8 +9,6 @@ use Rattle.tiles.specs.Map.{pattern, bg_off, fetch_bg}
 use Rattle.tiles.specs.Objects.{sprite_row, starts_left, sprite_colours}
 use Rattle.tiles.specs.Sources.{tile_row, pattern_row, fetched_row, sprite_tile_row, started_row}
 use Rattle.tiles.specs.declared.Address.{Address}
-use Rattle.tiles.specs.declared.Source.{Source}
-use Rattle.tiles.specs.declared.Source.TheVariants.{ReadAt, NothingRead}
 use Rattle.tiles.specs.declared.TileRow.{TileRow}
 use Rattle.tiles.specs.declared.Fetch.{Fetch}
 use Rattle.tiles.specs.declared.FetchedRow.{FetchedRow}
@@ -38,9 +36,9 @@ pub record Inside (a : Address) : Type 0 where
 
 -- What a source says of colours that flips and moves made of a row: the row is that of the two bytes there; where nothing was
 -- read there is none, and they are eight 0s.
-abbrev pub Told : List ℕ → (List ℕ → List ℕ) → List ℕ → Source → Type 0
-Told vram made colours (ReadAt a) = Inside a × (colours ≡ made (side_by_side vram a))
-Told vram made colours NothingRead = colours ≡ replicate 8 0
+abbrev pub Told : List ℕ → (List ℕ → List ℕ) → List ℕ → Option Address → Type 0
+Told vram made colours (Some a) = Inside a × (colours ≡ made (side_by_side vram a))
+Told vram made colours None = colours ≡ replicate 8 0
 
 -- of a fetch: mirrored by the attribute that it gives
 abbrev pub TrueFetch : List ℕ → FetchedRow → Type 0
@@ -55,9 +53,9 @@ made_by s x row =
 abbrev pub TrueStart : List ℕ → Sprite → ℕ → TileRow → Type 0
 TrueStart vram s x t = Told vram (made_by s x) t.colors t.source
 
-abbrev pub was_read : Source → Bool
-was_read (ReadAt a) = true
-was_read NothingRead = false
+abbrev pub was_read : Option Address → Bool
+was_read (Some a) = true
+was_read None = false
 
 -- The sources of fetches and of sprites' starts are true, in any VRAM; a fetch reads nothing exactly where the background is taken
 -- away, and a sprite always reads (theorem `sources_true`).

@@ -1,20 +1,19 @@
 -- Where a row was read: what Tile, Map and Objects say of a row, and beside it the place in VRAM of the row's first byte. The pictures
 -- go by those definitions; dropping the source gives them back (Laws `Dropped`).
-use Rattle.std.specs.Prelude.{ℕ, ◌+◌, ◌/◌, ◌%◌, Bool, cond, List}
+use Rattle.std.specs.Prelude.{ℕ, ◌+◌, ◌/◌, ◌%◌, Bool, cond, List, Some, None}
 use Rattle.wrap.specs.Wrap.{bit_at}
 use Rattle.sprite.specs.declared.Sprite.{Sprite}
 use Rattle.tiles.specs.Tile.{byte_at, row_at, mirrored}
 use Rattle.tiles.specs.Map.{map_address, bg_address, pattern, fetch_at, bg_off, no_tile}
 use Rattle.tiles.specs.Objects.{sprite_address, sprite_row, sprite_colours}
 use Rattle.tiles.specs.declared.Address.{Address}
-use Rattle.tiles.specs.declared.Source.TheVariants.{ReadAt, NothingRead}
 use Rattle.tiles.specs.declared.TileRow.{TileRow}
 use Rattle.tiles.specs.declared.Fetch.{Fetch}
 use Rattle.tiles.specs.declared.FetchedRow.{FetchedRow}
 
 -- colours that come from the row at an address
 abbrev pub read_at : Address → List ℕ → TileRow
-read_at a colours = record { colors = colours; source = ReadAt a }
+read_at a colours = record { colors = colours; source = Some a }
 
 -- the row at an address as it is read
 abbrev pub tile_row : List ℕ → Address → TileRow
@@ -42,7 +41,7 @@ fetched_tile vram lcdc high row column = fetched_at vram lcdc (map_address high 
 
 -- with the background taken away no row is read
 abbrev pub nothing_fetched : FetchedRow
-nothing_fetched = record { tile = no_tile; source = NothingRead }
+nothing_fetched = record { tile = no_tile; source = None }
 
 -- a fetch of the background or the window, at the place of the map that Map's `fetch_window` and `fetch_scrolled` look at
 unfoldable pub fetched_row : List ℕ → Fetch → FetchedRow

@@ -19,18 +19,11 @@ pub struct Address {
     pub offset: u16,
 }
 
-// Where a row was read: at the address of its first byte, or nowhere.
-#[derive(Clone, Copy)]
-pub enum Source {
-    ReadAt(Address),
-    NothingRead,
-}
-
-// A row as it was read: eight colours, leftmost first, and their source.
+// A row as it was read: eight colours, leftmost first, and their source, the address of its first byte; none where nothing was read.
 #[derive(Clone, Copy)]
 pub struct TileRow {
     pub colors: [u8; 8],
-    pub source: Source,
+    pub source: Option<Address>,
 }
 
 // The byte of a bank at an address, modulo the bank's bytes.
@@ -76,7 +69,7 @@ pub fn tile_row(vram: &[u8], address: Address) -> TileRow
     let high = read_vram_banked(vram, address.bank, second);
     TileRow {
         colors: row_of(low, high),
-        source: Source::ReadAt(address),
+        source: Some(address),
     }
 }
 
@@ -172,7 +165,7 @@ pub struct Fetched {
 #[derive(Clone, Copy)]
 pub struct FetchedRow {
     pub tile: Fetched,
-    pub source: Source,
+    pub source: Option<Address>,
 }
 
 // The tile row of a map at a row of places and a column of tiles.
@@ -227,7 +220,7 @@ fn no_tile() -> FetchedRow
             row: [0; 8],
             attribute: BgAttribute { bits: 0 },
         },
-        source: Source::NothingRead,
+        source: None,
     }
 }
 

@@ -1,26 +1,76 @@
-// What the programs share: requests and answers in buffers, numbers as text, what is said on standard error where a request has
-// no answer, and the FNV-1a digest of 64 bits.
+// What the programs share: lists of requests and their answers, inputs that are read whole, what is said on standard error where
+// something has no answer, and the FNV-1a digest of 64 bits.
 #![tactic(auto)]
 
-ghost use Rattle.std.specs.Prelude.{◌≤◌, length};
+ghost use Rattle.std.specs.Prelude.{◌≡◌, ◌≤◌, ◌-◌, ◌++◌, length, replicate, cond, IfOk};
+ghost use Rattle.std.specs.Int.{w16, w64, to_le_bytes};
+ghost use Rattle.wire.specs.Fnv.{of_nothing, with_byte, with_bytes};
 
-use std::io;
 use std::io::{Read, Write};
+use std::{fmt, io};
 
-// What comes after what was read: more, perhaps; nothing, at the end of the input; or a read that failed.
-#[derive(Clone, Copy)]
-pub enum Next {
-    More,
-    End,
-    Failure,
+// What answers requests of eight bytes, each with N bytes.
+pub trait Answers<const N: usize> {
+    fn answer(&mut self, request: [u8; 8]) -> [u8; N];
 }
 
-// What a read brought: whole requests of eight bytes, the bytes of one that is not whole, and what comes next.
-#[derive(Clone, Copy)]
-pub struct Arrived {
-    pub count: usize,
-    pub over: usize,
-    pub next: Next,
+// Why the answers to a list of requests end: the list ends within a request, after so many of its bytes; a read failed; a write
+// failed.
+#[derive(Clone, Copy, Debug, PartialEq, Eq)]
+pub enum Stop {
+    Cut(usize),
+    Unread,
+    Unwritten,
+}
+
+impl fmt::Display for Stop {
+    fn fmt<W: fmt::Write>(&self, f: &mut fmt::Formatter<W>) -> fmt::Result {
+        match *self {
+            Stop::Cut(over) => write!(
+                f,
+                "the input ends within a request, after {over} of its 8 bytes: it has no answer"
+            ),
+            Stop::Unread => f.write_str(
+                "the input could not be read to its end: the answers end with the last whole request that came",
+            ),
+            Stop::Unwritten => f.write_str(
+                "an answer could not be written: the answers end before the requests do",
+            ),
+        }
+    }
+}
+
+impl From<io::Error> for Stop {
+    fn from(_e: io::Error) -> Stop {
+        Stop::Unwritten
+    }
+}
+
+// Why an input that is read whole has no answer, or not all of it: a read failed; it is longer than 65536 bytes; it ends within an
+// edit of two bytes; a write failed.
+#[derive(Clone, Copy, Debug, PartialEq, Eq)]
+pub enum NoAnswer {
+    Unread,
+    Long,
+    Cut,
+    Unwritten,
+}
+
+impl fmt::Display for NoAnswer {
+    fn fmt<W: fmt::Write>(&self, f: &mut fmt::Formatter<W>) -> fmt::Result {
+        f.write_str(match *self {
+            NoAnswer::Unread => "the input could not be read to its end: there is no answer",
+            NoAnswer::Long => "the input is longer than 65536 bytes: there is no answer",
+            NoAnswer::Cut => "the input ends within an edit: there is no answer",
+            NoAnswer::Unwritten => "the answer could not be written to its end",
+        })
+    }
+}
+
+impl From<io::Error> for NoAnswer {
+    fn from(_e: io::Error) -> NoAnswer {
+        NoAnswer::Unwritten
+    }
 }
 
 // Reads until the buffer is full, the input ends or a read fails, and answers how many bytes came: they stand at its start.
@@ -28,6 +78,7 @@ pub fn read_full(input: &mut impl Read, buffer: &mut [u8]) -> usize
     ensures { result ≤ length buffer.new }
 {
     let mut done = 0;
+    // No `for`: a read brings any number of bytes.
     while done < buffer.len() {
         match input.read(&mut buffer[done..]) {
             Ok(0) | Err(_) => return done,
@@ -44,159 +95,134 @@ pub fn is_at_end(input: &mut impl Read) -> bool {
     matches!(input.read(&mut byte), Ok(0))
 }
 
-// A space and a byte as a number. Each function that prints stops at the first write that fails.
-pub fn print_next(out: &mut impl Write, byte: u8) -> io::Result<()> {
-    write!(out, " {byte}")
-}
-
-// A word, a number and the line's end.
-pub fn print_line(out: &mut impl Write, word: &[u8], number: u8) -> io::Result<()> {
-    out.write_all(word)?;
-    writeln!(out, "{number}")
-}
-
-// What comes after a read of so many bytes: a full buffer says nothing of it.
-fn next_of(input: &mut impl Read, got: usize) -> Next {
-    if got == 65536 {
-        return Next::More;
-    }
-    if is_at_end(input) {
-        return Next::End;
-    }
-    Next::Failure
-}
-
-// Fills a buffer from the input.
-pub fn read_requests(input: &mut impl Read, requests: &mut [u8; 65536]) -> Arrived
-    ensures { result.count ≤ 8192 }
+// Reads an input whole, or as much of it as the buffer takes: so many bytes, at its start.
+pub fn read_input(input: &mut impl Read, buffer: &mut [u8]) -> Result<usize, NoAnswer>
+    ensures { IfOk result (λ n. n ≤ length buffer.new) }
 {
-    let got = read_full(input, requests);
-    Arrived {
-        count: got / 8,
-        over: got % 8,
-        next: next_of(input, got),
+    let n = read_full(input, buffer);
+    if n < buffer.len() && !is_at_end(input) {
+        return Err(NoAnswer::Unread);
     }
+    Ok(n)
 }
 
 // Says something on standard error, after the program's name. Where that fails too, nothing is left to do.
-pub fn say(err: &mut impl Write, program: &[u8], line: &[u8]) {
-    let _ = err.write_all(program);
-    let _ = err.write_all(line);
+pub fn say(err: &mut impl Write, program: &str, why: &impl fmt::Display) {
+    let _ = writeln!(err, "{program}: {why}");
 }
 
-// Says that a part of a request at the end of the input has no answer.
-fn say_over(err: &mut impl Write, program: &[u8], over: usize) {
-    if over == 0 {
-        return;
-    }
-    say(err, program, b": the input ends within a request, after ");
-    let _ = writeln!(err, "{over} of its 8 bytes: it has no answer");
+// An answer that begins with these bytes: 0s stand behind them.
+pub fn padded<const N: usize>(bytes: &[u8]) -> [u8; N]
+    requires { length bytes.now ≤ N }
+    ensures { result ≡ bytes.now ++ replicate (N - length bytes.now) 0 }
+{
+    let mut answer = [0; N];
+    answer[..bytes.len()].copy_from_slice(bytes);
+    answer
 }
 
-// Whether a program goes on after what arrived, its answers written or not. Where it does not, says why a request has no
-// answer: the exit status tells nothing.
-pub fn goes_on(err: &mut impl Write, program: &[u8], arrived: Arrived, written: bool) -> bool {
-    if !written {
-        say(
-            err,
-            program,
-            b": an answer could not be written: the answers end before the requests do\n",
-        );
-        return false;
-    }
-    let next = arrived.next;
-    match next {
-        Next::More => true,
-        Next::End => {
-            say_over(err, program, arrived.over);
-            false
+// Answers requests in order, each with 16 bytes at most, and writes the answers a buffer at a time.
+fn answer_all<const N: usize>(
+    out: &mut impl Write,
+    desk: &mut impl Answers<N>,
+    requests: &[[u8; 8]],
+) -> io::Result<()>
+    requires { N ≤ 16 }
+{
+    let mut answers = [[0u8; N]; 4096];
+    for part in requests.chunks(4096) {
+        for (request, answer) in part.iter().zip(answers.iter_mut()) {
+            *answer = desk.answer(*request);
         }
-        Next::Failure => {
-            say(
-                err,
-                program,
-                b": the input could not be read to its end: the answers end with the last whole request that came\n",
-            );
-            false
+        out.write_all(answers[..part.len()].as_flattened())?;
+    }
+    Ok(())
+}
+
+// Answers the requests of a buffer. Whether the list ends with them: a full buffer says nothing of it.
+fn turn<const N: usize>(
+    input: &mut impl Read,
+    out: &mut impl Write,
+    desk: &mut impl Answers<N>,
+) -> Result<bool, Stop>
+    requires { N ≤ 16 }
+{
+    let mut buffer = [0u8; 65536];
+    let came = read_full(input, &mut buffer);
+    let is_full = came == buffer.len();
+    let is_over = !is_full && is_at_end(input);
+    let (requests, over) = buffer[..came].as_chunks::<8>();
+    answer_all(out, desk, requests)?;
+    if !is_full && !is_over {
+        return Err(Stop::Unread);
+    }
+    if !over.is_empty() {
+        return Err(Stop::Cut(over.len()));
+    }
+    Ok(is_over)
+}
+
+// Answers a list of requests to its end. Nothing says that an input ends, so the turns are counted up to a number that no run comes
+// to.
+pub fn answer_list<const N: usize>(
+    input: &mut impl Read,
+    out: &mut impl Write,
+    desk: &mut impl Answers<N>,
+) -> Result<(), Stop>
+    requires { N ≤ 16 }
+{
+    for _ in 0..u64::MAX {
+        if turn(input, out, desk)? {
+            break;
         }
     }
+    Ok(())
 }
 
-// The request at byte i.
-pub fn request_at(requests: &[u8; 65536], i: usize) -> [u8; 8]
-    requires { i ≤ 65528 }
-{
-    [
-        requests[i],
-        requests[i + 1],
-        requests[i + 2],
-        requests[i + 3],
-        requests[i + 4],
-        requests[i + 5],
-        requests[i + 6],
-        requests[i + 7],
-    ]
-}
+// The digest of the bytes taken in so far.
+#[derive(Clone, Copy)]
+pub struct Digest(u64);
 
-// Puts eight bytes of an answer at byte i.
-pub fn put(answers: &mut [u8; 65536], i: usize, bytes: [u8; 8])
-    requires { i ≤ 65528 }
-{
-    answers[i] = bytes[0];
-    answers[i + 1] = bytes[1];
-    answers[i + 2] = bytes[2];
-    answers[i + 3] = bytes[3];
-    answers[i + 4] = bytes[4];
-    answers[i + 5] = bytes[5];
-    answers[i + 6] = bytes[6];
-    answers[i + 7] = bytes[7];
-}
-
-// Writes the first n bytes of a buffer.
-pub fn write_first(out: &mut impl Write, answers: &[u8; 65536], n: usize) -> io::Result<()>
-    requires { n ≤ 65536 }
-{
-    out.write_all(&answers[..n])
-}
-
-// The product with the prime 0x100000001B3 modulo 2^64, by halves of 32 bits.
-fn times_prime(h: u64) -> u64 {
-    let low = h % 0x1_0000_0000;
-    let high = h / 0x1_0000_0000;
-    let first = low * 0x1B3;
-    let second = high * 0x1B3 + low * 0x100 + first / 0x1_0000_0000;
-    second % 0x1_0000_0000 * 0x1_0000_0000 + first % 0x1_0000_0000
-}
-
-// The digest of nothing.
-pub fn nothing() -> u64 {
-    0xCBF2_9CE4_8422_2325
-}
-
-// The digest with one byte more.
-pub fn take_in(h: u64, byte: u8) -> u64 {
-    times_prime(h ^ byte as u64)
-}
-
-// The digest with more bytes.
-pub fn take_all(start: u64, bytes: &[u8]) -> u64 {
-    let mut h = start;
-    for byte in bytes {
-        h = take_in(h, *byte);
+impl Digest {
+    // The digest of nothing.
+    pub fn new() -> Self
+        ensures { result ≡ of_nothing }
+    {
+        Digest(0xCBF2_9CE4_8422_2325)
     }
-    h
-}
 
-// The digest as bytes, the lowest first.
-pub fn bytes_of(h: u64) -> [u8; 8] {
-    [
-        (h % 0x100) as u8,
-        (h / 0x100 % 0x100) as u8,
-        (h / 0x1_0000 % 0x100) as u8,
-        (h / 0x100_0000 % 0x100) as u8,
-        (h / 0x1_0000_0000 % 0x100) as u8,
-        (h / 0x100_0000_0000 % 0x100) as u8,
-        (h / 0x1_0000_0000_0000 % 0x100) as u8,
-        (h / 0x100_0000_0000_0000 % 0x100) as u8,
-    ]
+    // With one byte more.
+    pub fn byte(self, byte: u8) -> Self
+        ensures { result ≡ with_byte self byte }
+    {
+        Digest((self.0 ^ u64::from(byte)).wrapping_mul(0x100_0000_01B3))
+    }
+
+    // With more bytes.
+    pub fn bytes(self, bytes: &[u8]) -> Self
+        ensures { result ≡ with_bytes self bytes.now }
+    {
+        bytes.iter().fold(self, |digest, byte| digest.byte(*byte))
+    }
+
+    // With a word, low byte first.
+    pub fn word(self, word: u16) -> Self
+        ensures { result ≡ with_bytes self (to_le_bytes w16 word) }
+    {
+        self.bytes(&word.to_le_bytes())
+    }
+
+    // With a flag, 0 or 1.
+    pub fn flag(self, yes: bool) -> Self
+        ensures { result ≡ with_byte self (cond yes 1 0) }
+    {
+        self.byte(u8::from(yes))
+    }
+
+    // The digest as bytes, the lowest first.
+    pub fn to_bytes(self) -> [u8; 8]
+        ensures { result ≡ to_le_bytes w64 self.0 }
+    {
+        self.0.to_le_bytes()
+    }
 }

@@ -8,7 +8,7 @@ ghost use Rattle.wrap.specs.Wrap.{minus, digit_at, bit_at};
 pub fn wrapping_sub(a: u8, b: u8) -> u8
     ensures { result ≡ minus a b }
 {
-    std::num::wrapping_sub_u8(a, b)
+    a.wrapping_sub(b)
 }
 
 // Bit n of x as a number, 0 or 1.

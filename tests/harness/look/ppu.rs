@@ -52,10 +52,8 @@ impl Ppu {
     fn part_set_pipe(&mut self, p: &rattle::state::Pipe, coord: bool) {
         self.fetcher.delay_counter = p.fetcher.delay;
         self.fetcher.x = p.fetcher.column;
-        self.fetcher.data = match p.fetcher.waiting {
-            rattle::state::Waiting::Row(t) => Some((p.fetcher.row, BgAttribute::new(t.bits))),
-            rattle::state::Waiting::Nothing => None,
-        };
+        let waiting = p.fetcher.waiting;
+        self.fetcher.data = waiting.map(|t| (p.fetcher.row, BgAttribute::new(t.bits)));
         self.bg_fifo.part_set(&p.bg);
         self.sprite_fifo.part_set(&p.obj, coord);
         self.is_drawing_window = p.window;
@@ -66,12 +64,12 @@ impl Ppu {
     /// The state in its plain form: queues from slot 0 on, 0s where nothing stands.
     pub fn part_state(&self, count: u16, blanked: bool, cgb: bool) -> rattle::state::State {
         use rattle::bg_attribs::BgAttribute;
-        use rattle::state::{Beam, Fetcher, Palettes, Pipe, Registers, State, Waiting};
+        use rattle::state::{Beam, Fetcher, Palettes, Pipe, Registers, State};
         let coord = self.sprite_priority_mode == SpritePriorityMode::ByCoord;
         assert!(coord == self.sprite_fifo.part_coord());
         let (row, waiting) = match &self.fetcher.data {
-            Some((row, t)) => (*row, Waiting::Row(BgAttribute { bits: t.bits() })),
-            None => ([0; 8], Waiting::Nothing),
+            Some((row, t)) => (*row, Some(BgAttribute { bits: t.bits() })),
+            None => ([0; 8], None),
         };
         State {
             machine: rattle::hardware::Machine {

@@ -54,40 +54,40 @@ ready_state vram s = with_pipe s (prepared vram s)
 -- either way the pipe is ready
 made : (c : Joined-does_join)
     → c.if-does_join.state
-    ≡ ready_state c.args.vram.now c.loop-k.state
+    ≡ ready_state c.args.vram.now c.loop.state
 made c =
     let v = c.args.vram.now in
-    let s = c.loop-k.state in
+    let s = c.loop.state in
     elim c.if-does_join.branch [
-      | then-does_join w ↦ w.state-is ∙ ap (with_pipe s) w.prepare-pipe.ensures
+      | then-does_join w ↦ w.state-is ∙ ap (with_pipe s) w.prepare-state.ensures
       | else-does_join w ↦
-          w.state-is ∙ ap (with_pipe s) (w.wait-pipe.ensures ∙ sym (prepared_none v s (sym c.does_join.ensures ∙ w.if-does_join.false)))
+          w.state-is ∙ ap (with_pipe s) (w.wait-state.ensures ∙ sym (prepared_none v s (sym c.does_join.ensures ∙ w.if-does_join.false)))
     ]
 
 pub returns-then-state-ne3 : goal.returns-then-state-ne3
 returns-then-state-ne3 c =
-    under_out c.if-state-ne3.true c.loop-k.invariant
+    under_out c.if-state-ne3.true c.loop.invariant
 
-pub wait-pipe-requires : goal.wait-pipe-requires
-wait-pipe-requires c =
-    let left = delay_left c.args.vram.now c.loop-k.state (sym c.does_join.ensures ∙ c.if-does_join.false) in
+pub wait-state-requires : goal.wait-state-requires
+wait-state-requires c =
+    let left = delay_left c.args.vram.now c.loop.state (sym c.does_join.ensures ∙ c.if-does_join.false) in
     omega (arith, left)
 
 pub draw-drawn-requires : goal.draw-drawn-requires
 draw-drawn-requires c =
-    let f = c.loop-k.invariant.fine in
-    rw (made (goal.at.draw-drawn-requires c).Joined-does_join) (f.beam.x, prepared_fine c.args.vram.now c.loop-k.state f.selection f.pipe)
+    let f = c.loop.invariant.fine in
+    rw (made (goal.at.draw-drawn-requires c).Joined-does_join) (f.beam.x, prepared_fine c.args.vram.now c.loop.state f.selection f.pipe)
 
 pub store_shot-requires : goal.store_shot-requires
 store_shot-requires c =
-    let l = c.loop-k in
+    let l = c.loop in
     (l.invariant.size, rw (c.draw-drawn.ensures, made (goal.at.store_shot-requires c).Joined-does_join, halves_drawn) (drawn_on_screen _ l.state l.invariant.fine c.if-state-ne3.false))
 
-pub loop-k-preserved : goal.loop-k-preserved
-loop-k-preserved c =
-    let l = c.loop-k in
-    rw (c.store_shot.ensures, c.draw-drawn.ensures, made (goal.at.loop-k-preserved c).Joined-does_join, halves_drawn)
-    (under_more c.loop-k-test.true c.if-state-ne3.false l.invariant)
+pub loop-preserved : goal.loop-preserved
+loop-preserved c =
+    let l = c.loop in
+    rw (c.store_shot.ensures, c.draw-drawn.ensures, made (goal.at.loop-preserved c).Joined-does_join, halves_drawn)
+    (under_more c.loop-test.true c.if-state-ne3.false l.invariant)
 
 pub returns : goal.returns
-returns c = under_end c.loop-k-test.false c.loop-k.invariant
+returns c = under_end c.loop-test.false c.loop.invariant

@@ -17,8 +17,5 @@ pub record Underway (n : ℕ) (vram : List ℕ) (s₀ : State) (p₀ : List ℕ)
   pub state : (burst n vram s₀).state ≡ (burst (n - k) vram s).state
   pub picture : all_stored p₀ (burst n vram s₀).shots ≡ all_stored p (burst (n - k) vram s).shots
 
-abbrev pub invariant-loop-k : goal.invariant-loop-k
-invariant-loop-k l = Underway l.cycles l.vram l.initial.state l.initial.picture l.k l.state l.picture
-
-abbrev pub decreases-loop-k : goal.decreases-loop-k
-decreases-loop-k l = l.cycles - l.k
+abbrev pub invariant-loop : goal.invariant-loop
+invariant-loop l = Underway l.cycles l.vram l.initial.state l.initial.picture l.counter l.state l.picture

@@ -1,16 +1,17 @@
--- `captures::either` meets its contract. Each `return` has the tests on the way there.
-use mathlib.Core.Path.{refl, sym, ◌∙◌}
+-- `captures::either` meets its contract. Each end has the tests on the way there.
+use mathlib.Core.Path.{refl}
 use Rattle.captures.specs.Reading.{either}
+use Rattle.captures.proofs.Texts.{same_by}
 use Rattle.captures.proofs.either.Goals as goal
 
-pub returns-then-same : goal.returns-then-same
+pub returns-then-eq : goal.returns-then-eq
 unfolding either
-returns-then-same c = rw (sym c.same.ensures ∙ c.if-same.true) refl
+returns-then-eq c = rw (same_by c.args.word.now _ c.eq.ensures c.if-eq.true) refl
 
-pub returns-then-same-2 : goal.returns-then-same-2
+pub returns-then-eq-2 : goal.returns-then-eq-2
 unfolding either
-returns-then-same-2 c = rw (sym c.same.ensures ∙ c.if-same.false, sym c.same-2.ensures ∙ c.if-same-2.true) refl
+returns-then-eq-2 c = rw (same_by c.args.word.now _ c.eq.ensures c.if-eq.false, same_by c.args.word.now _ c.eq-else-eq.ensures c.if-eq-2.true) refl
 
-pub returns : goal.returns
+pub returns-else-eq-2 : goal.returns-else-eq-2
 unfolding either
-returns c = rw (sym c.same.ensures ∙ c.if-same.false, sym c.same-2.ensures ∙ c.if-same-2.false) refl
+returns-else-eq-2 c = rw (same_by c.args.word.now _ c.eq.ensures c.if-eq.false, same_by c.args.word.now _ c.eq-else-eq.ensures c.if-eq-2.false) refl

@@ -6,8 +6,8 @@ use Rattle.captures.proofs.hexadecimal.Goals as goal
 
 pub returns-then-word-size : goal.returns-then-word-size
 unfolding hexadecimal
-returns-then-word-size c = rw (ne_eqb _ _ c.if-word-size.true) refl
+returns-then-word-size c = rw (eq-eqb _ _ c.if-word-size.true) c.number_of.ensures
 
-pub returns : goal.returns
+pub returns-else-word-size : goal.returns-else-word-size
 unfolding hexadecimal
-returns c = rw (eq-eqb _ _ c.if-word-size.false) c.number_of.ensures
+returns-else-word-size c = rw (ne_eqb _ _ c.if-word-size.false) refl

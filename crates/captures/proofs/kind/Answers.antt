@@ -1,20 +1,36 @@
--- `captures::kind` meets its contract. Each `return` has the tests on the way there.
-use mathlib.Core.Path.{refl, sym, ◌∙◌}
+-- `captures::kind` meets its contract. Each end has the tests on the way there.
+use mathlib.Core.Path.{refl}
 use Rattle.captures.specs.Reading.{kind_of}
+use Rattle.captures.proofs.Texts.{same_word}
 use Rattle.captures.proofs.kind.Goals as goal
 
-pub returns-then-same : goal.returns-then-same
+pub returns-then-eq : goal.returns-then-eq
 unfolding kind_of
-returns-then-same c = rw (sym c.same.ensures ∙ c.if-same.true) refl
+returns-then-eq c =
+    rw (same_word c.args.word.now _ c.as_slice.ensures c.eq.ensures c.if-eq.true) refl
 
-pub returns-then-same-2 : goal.returns-then-same-2
+pub returns-then-eq-2 : goal.returns-then-eq-2
 unfolding kind_of
-returns-then-same-2 c = rw (sym c.same.ensures ∙ c.if-same.false, sym c.same-2.ensures ∙ c.if-same-2.true) refl
+returns-then-eq-2 c =
+    rw (
+      same_word c.args.word.now _ c.as_slice.ensures c.eq.ensures c.if-eq.false,
+      same_word c.args.word.now _ c.as_slice-else-eq.ensures c.eq-else-eq.ensures c.if-eq-2.true,
+    ) refl
 
-pub returns-then-same-3 : goal.returns-then-same-3
+pub returns-then-eq-3 : goal.returns-then-eq-3
 unfolding kind_of
-returns-then-same-3 c = rw (sym c.same.ensures ∙ c.if-same.false, sym c.same-2.ensures ∙ c.if-same-2.false, sym c.same-3.ensures ∙ c.if-same-3.true) refl
+returns-then-eq-3 c =
+    rw (
+      same_word c.args.word.now _ c.as_slice.ensures c.eq.ensures c.if-eq.false,
+      same_word c.args.word.now _ c.as_slice-else-eq.ensures c.eq-else-eq.ensures c.if-eq-2.false,
+      same_word c.args.word.now _ c.as_slice-else-eq-2.ensures c.eq-else-eq-2.ensures c.if-eq-3.true,
+    ) refl
 
-pub returns : goal.returns
+pub returns-else-eq-3 : goal.returns-else-eq-3
 unfolding kind_of
-returns c = rw (sym c.same.ensures ∙ c.if-same.false, sym c.same-2.ensures ∙ c.if-same-2.false, sym c.same-3.ensures ∙ c.if-same-3.false) refl
+returns-else-eq-3 c =
+    rw (
+      same_word c.args.word.now _ c.as_slice.ensures c.eq.ensures c.if-eq.false,
+      same_word c.args.word.now _ c.as_slice-else-eq.ensures c.eq-else-eq.ensures c.if-eq-2.false,
+      same_word c.args.word.now _ c.as_slice-else-eq-2.ensures c.eq-else-eq-2.ensures c.if-eq-3.false,
+    ) refl

@@ -1,25 +1,32 @@
--- `captures::put_arguments` meets its contract. The address, the bytes and TIMES are put one behind the other.
-use Prim.Native.Nat.{◌*◌}
-use native.Mathlib.Omega.{arith}
-use Rattle.texts.proofs.Numbers.{digits_length}
-use Rattle.captures.specs.Printing.{bytes_words}
-use Rattle.captures.proofs.Buffer.{last, more}
+-- `captures::put_arguments` meets its contract. Each arm puts its arguments one behind the other.
+use mathlib.Core.List.{append_assoc, append-nil}
+use Rattle.captures.specs.Printing.{spaced, arguments_of}
 use Rattle.captures.proofs.put_arguments.Goals as goal
 
-pub put_hexadecimal-at-requires-2 : goal.put_hexadecimal-at-requires-2
-put_hexadecimal-at-requires-2 c =
-    let address = c.put_hexadecimal-at.ensures in
-    omega (arith, address.behind, address.sized, digits_length 16 4 c.args.bytes.address, c.at_most_eight-count.ensures, c.requires)
+pub returns-in-Start : goal.returns-in-Start
+unfolding spaced arguments_of
+returns-in-Start c = rw (c.in-Start.is, c.put_either-in-Start.ensures.put, c.put_either.ensures.put) (simp (append_assoc, append-nil))
 
-pub put_decimal-requires : goal.put_decimal-requires
-put_decimal-requires c =
-    let count = c.at_most_eight-count in
-    let address = c.put_hexadecimal-at.ensures in
-    let bytes = c.put_hexadecimal-at-2.ensures in
-    omega (arith, address.behind, address.sized, digits_length 16 4 c.args.bytes.address, bytes.behind, bytes.sized, digits_length 16 (2 * count.result) c.args.bytes.bytes, count.ensures, c.requires)
+pub returns-in-Write : goal.returns-in-Write
+unfolding spaced arguments_of
+returns-in-Write c = rw (c.in-Write.is, c.put_hexadecimal-in-Write.ensures.put, c.put_hexadecimal.ensures.put) (simp (append_assoc, append-nil))
 
-pub returns : goal.returns
-unfolding bytes_words
-returns c =
-    rw (← c.at_most_eight-count.ensures)
-    (more _ c.put_hexadecimal-at.ensures (more _ c.put_hexadecimal-at-2.ensures (last c.put_decimal.ensures)))
+pub returns-in-Vram : goal.returns-in-Vram
+unfolding arguments_of
+returns-in-Vram c = rw c.in-Vram.is c.put_bytes.ensures
+
+pub returns-in-Oam : goal.returns-in-Oam
+unfolding arguments_of
+returns-in-Oam c = rw c.in-Oam.is c.put_bytes-in-Oam.ensures
+
+pub returns-in-Step : goal.returns-in-Step
+unfolding spaced arguments_of
+returns-in-Step c = rw (c.in-Step.is, c.put_decimal-in-Step.ensures.put, c.put_decimal.ensures.put) (simp (append_assoc, append-nil))
+
+pub returns-in-Corrupt : goal.returns-in-Corrupt
+unfolding spaced arguments_of
+returns-in-Corrupt c = rw (c.in-Corrupt.is, c.put_word.ensures.put, c.kind_word.ensures.word) (simp append-nil)
+
+pub returns-in-Colour : goal.returns-in-Colour
+unfolding spaced arguments_of
+returns-in-Colour c = rw (c.in-Colour.is, c.put_either-in-Colour.ensures.put) (simp append-nil)

@@ -1,6 +1,6 @@
--- `captures::put_hexadecimal` meets its contract. A space, and behind it the digits.
-use Rattle.texts.proofs.Appends.{then}
+-- `captures::put_hexadecimal` meets its contract. A space, and behind it what is put.
+use mathlib.Core.List.{append_assoc}
 use Rattle.captures.proofs.put_hexadecimal.Goals as goal
 
-pub returns : goal.returns
-returns c = then c.put_byte-at.ensures c.put_digits.ensures
+pub returns-clause-put : goal.returns-clause-put
+returns-clause-put c = rw (c.put_digits.ensures.put, c.put_byte.ensures.put) (append_assoc c.args.out.now _ _)

@@ -1,24 +1,42 @@
 -- `captures::read_bytes` meets its contract. Each argument goes on with the words behind it.
 use mathlib.Core.Path.{sym, ◌∙◌}
+use Rattle.std.proofs.lemmas.Result.{err_from_is_err_and}
 use Rattle.captures.specs.Reading.{read_bytes}
+use Rattle.captures.proofs.read_bytes.Goals.{then-oam, else-oam}
 use Rattle.captures.proofs.read_bytes.Goals as goal
 
-pub returns-in-Wrong : goal.returns-in-Wrong
+pub returns-in_err-address : goal.returns-in_err-address
 unfolding read_bytes
-returns-in-Wrong c = sym (c.in-Wrong.ensures _)
+returns-in_err-address c =
+    let p = err_from_is_err_and c.from_residual.result c.from_residual.ensures.1 in
+    rw (p.1, p.2) (sym (c.in_err-address.ensures _))
 
-pub returns-in-Wrong-next_argument : goal.returns-in-Wrong-next_argument
+pub returns-in_err-bytes : goal.returns-in_err-bytes
 unfolding read_bytes
-returns-in-Wrong-next_argument c = sym (c.in-Wrong-next_argument.ensures _) ∙ sym (c.in-Read.ensures.goes _)
+returns-in_err-bytes c =
+    let p = err_from_is_err_and c.from_residual-in_err-bytes.result c.from_residual-in_err-bytes.ensures.1 in
+    rw (p.1, p.2) (sym (c.in_err-bytes.ensures _) ∙ sym (c.in_ok-address.ensures.goes _))
 
-pub returns-in-Wrong-next_argument-2 : goal.returns-in-Wrong-next_argument-2
+pub returns-in_err-times : goal.returns-in_err-times
 unfolding read_bytes
-returns-in-Wrong-next_argument-2 c = sym (c.in-Wrong-next_argument-2.ensures _) ∙ sym (c.in-Read-next_argument.ensures.goes _) ∙ sym (c.in-Read.ensures.goes _)
+returns-in_err-times c =
+    let p = err_from_is_err_and c.from_residual-in_err-times.result c.from_residual-in_err-times.ensures.1 in
+    rw (p.1, p.2) (sym (c.in_err-times.ensures _) ∙ sym (c.in_ok-bytes.ensures.goes _) ∙ sym (c.in_ok-address.ensures.goes _))
 
-pub returns-then-oam : goal.returns-then-oam
+pub returns : goal.returns
 unfolding read_bytes
-returns-then-oam c = rw c.if-oam.true (c.whole.ensures ∙ sym (c.in-Read-next_argument-2.ensures.goes _) ∙ sym (c.in-Read-next_argument.ensures.goes _) ∙ sym (c.in-Read.ensures.goes _))
-
-pub returns-else-oam : goal.returns-else-oam
-unfolding read_bytes
-returns-else-oam c = rw c.if-oam.false (c.whole-else-oam.ensures ∙ sym (c.in-Read-next_argument-2.ensures.goes _) ∙ sym (c.in-Read-next_argument.ensures.goes _) ∙ sym (c.in-Read.ensures.goes _))
+returns c =
+    elim c.if-oam.branch [
+      | then-oam w ↦
+          rw w.if-oam.true
+          (rw w.call-is at c.whole.ensures
+          ∙ sym (c.in_ok-times.ensures.goes _)
+          ∙ sym (c.in_ok-bytes.ensures.goes _)
+          ∙ sym (c.in_ok-address.ensures.goes _))
+      | else-oam w ↦
+          rw w.if-oam.false
+          (rw w.call-is at c.whole.ensures
+          ∙ sym (c.in_ok-times.ensures.goes _)
+          ∙ sym (c.in_ok-bytes.ensures.goes _)
+          ∙ sym (c.in_ok-address.ensures.goes _))
+    ]

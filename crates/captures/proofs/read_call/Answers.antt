@@ -1,84 +1,86 @@
--- `captures::read_call` meets its contract. Each `return` has the tests on the way there.
-use mathlib.Core.Path.{refl, sym, ◌∙◌}
+-- `captures::read_call` meets its contract. Each end has the tests on the way there.
+use mathlib.Core.Path.{refl}
 use Rattle.captures.specs.Reading.{read_call}
+use Rattle.captures.proofs.Texts.{same_word}
 use Rattle.captures.proofs.read_call.Goals as goal
 
-pub returns-then-same : goal.returns-then-same
+pub returns-then-eq : goal.returns-then-eq
 unfolding read_call
-returns-then-same c = rw (sym c.same.ensures ∙ c.if-same.true) c.read_start.ensures
+returns-then-eq c =
+    rw (same_word c.args.name.now _ c.as_slice.ensures c.eq.ensures c.if-eq.true) c.read_start.ensures
 
-pub returns-then-same-2 : goal.returns-then-same-2
+pub returns-then-eq-2 : goal.returns-then-eq-2
 unfolding read_call
-returns-then-same-2 c =
+returns-then-eq-2 c =
     rw (
-      sym c.same.ensures ∙ c.if-same.false,
-      sym c.same-2.ensures ∙ c.if-same-2.true,
+      same_word c.args.name.now _ c.as_slice.ensures c.eq.ensures c.if-eq.false,
+      same_word c.args.name.now _ c.as_slice-else-eq.ensures c.eq-else-eq.ensures c.if-eq-2.true,
     ) c.read_write.ensures
 
-pub returns-then-same-3 : goal.returns-then-same-3
+pub returns-then-eq-3 : goal.returns-then-eq-3
 unfolding read_call
-returns-then-same-3 c =
+returns-then-eq-3 c =
     rw (
-      sym c.same.ensures ∙ c.if-same.false,
-      sym c.same-2.ensures ∙ c.if-same-2.false,
-      sym c.same-3.ensures ∙ c.if-same-3.true,
+      same_word c.args.name.now _ c.as_slice.ensures c.eq.ensures c.if-eq.false,
+      same_word c.args.name.now _ c.as_slice-else-eq.ensures c.eq-else-eq.ensures c.if-eq-2.false,
+      same_word c.args.name.now _ c.as_slice-else-eq-2.ensures c.eq-else-eq-2.ensures c.if-eq-3.true,
     ) c.read_bytes.ensures
 
-pub returns-then-same-4 : goal.returns-then-same-4
+pub returns-then-eq-4 : goal.returns-then-eq-4
 unfolding read_call
-returns-then-same-4 c =
+returns-then-eq-4 c =
     rw (
-      sym c.same.ensures ∙ c.if-same.false,
-      sym c.same-2.ensures ∙ c.if-same-2.false,
-      sym c.same-3.ensures ∙ c.if-same-3.false,
-      sym c.same-4.ensures ∙ c.if-same-4.true,
-    ) c.read_bytes-then-same-4.ensures
+      same_word c.args.name.now _ c.as_slice.ensures c.eq.ensures c.if-eq.false,
+      same_word c.args.name.now _ c.as_slice-else-eq.ensures c.eq-else-eq.ensures c.if-eq-2.false,
+      same_word c.args.name.now _ c.as_slice-else-eq-2.ensures c.eq-else-eq-2.ensures c.if-eq-3.false,
+      same_word c.args.name.now _ c.as_slice-else-eq-3.ensures c.eq-else-eq-3.ensures c.if-eq-4.true,
+    ) c.read_bytes-then-eq-4.ensures
 
-pub returns-then-same-5 : goal.returns-then-same-5
+pub returns-then-eq-5 : goal.returns-then-eq-5
 unfolding read_call
-returns-then-same-5 c =
+returns-then-eq-5 c =
     rw (
-      sym c.same.ensures ∙ c.if-same.false,
-      sym c.same-2.ensures ∙ c.if-same-2.false,
-      sym c.same-3.ensures ∙ c.if-same-3.false,
-      sym c.same-4.ensures ∙ c.if-same-4.false,
-      sym c.same-5.ensures ∙ c.if-same-5.true,
+      same_word c.args.name.now _ c.as_slice.ensures c.eq.ensures c.if-eq.false,
+      same_word c.args.name.now _ c.as_slice-else-eq.ensures c.eq-else-eq.ensures c.if-eq-2.false,
+      same_word c.args.name.now _ c.as_slice-else-eq-2.ensures c.eq-else-eq-2.ensures c.if-eq-3.false,
+      same_word c.args.name.now _ c.as_slice-else-eq-3.ensures c.eq-else-eq-3.ensures c.if-eq-4.false,
+      same_word c.args.name.now _ c.as_slice-else-eq-4.ensures c.eq-else-eq-4.ensures c.if-eq-5.true,
     ) c.read_step.ensures
 
-pub returns-then-same-6 : goal.returns-then-same-6
+pub returns-then-eq-6 : goal.returns-then-eq-6
 unfolding read_call
-returns-then-same-6 c =
+returns-then-eq-6 c =
     rw (
-      sym c.same.ensures ∙ c.if-same.false,
-      sym c.same-2.ensures ∙ c.if-same-2.false,
-      sym c.same-3.ensures ∙ c.if-same-3.false,
-      sym c.same-4.ensures ∙ c.if-same-4.false,
-      sym c.same-5.ensures ∙ c.if-same-5.false,
-      sym c.same-6.ensures ∙ c.if-same-6.true,
+      same_word c.args.name.now _ c.as_slice.ensures c.eq.ensures c.if-eq.false,
+      same_word c.args.name.now _ c.as_slice-else-eq.ensures c.eq-else-eq.ensures c.if-eq-2.false,
+      same_word c.args.name.now _ c.as_slice-else-eq-2.ensures c.eq-else-eq-2.ensures c.if-eq-3.false,
+      same_word c.args.name.now _ c.as_slice-else-eq-3.ensures c.eq-else-eq-3.ensures c.if-eq-4.false,
+      same_word c.args.name.now _ c.as_slice-else-eq-4.ensures c.eq-else-eq-4.ensures c.if-eq-5.false,
+      same_word c.args.name.now _ c.as_slice-else-eq-5.ensures c.eq-else-eq-5.ensures c.if-eq-6.true,
     ) c.read_corrupt.ensures
 
-pub returns-then-same-7 : goal.returns-then-same-7
+pub returns-then-eq-7 : goal.returns-then-eq-7
 unfolding read_call
-returns-then-same-7 c =
+returns-then-eq-7 c =
     rw (
-      sym c.same.ensures ∙ c.if-same.false,
-      sym c.same-2.ensures ∙ c.if-same-2.false,
-      sym c.same-3.ensures ∙ c.if-same-3.false,
-      sym c.same-4.ensures ∙ c.if-same-4.false,
-      sym c.same-5.ensures ∙ c.if-same-5.false,
-      sym c.same-6.ensures ∙ c.if-same-6.false,
-      sym c.same-7.ensures ∙ c.if-same-7.true,
+      same_word c.args.name.now _ c.as_slice.ensures c.eq.ensures c.if-eq.false,
+      same_word c.args.name.now _ c.as_slice-else-eq.ensures c.eq-else-eq.ensures c.if-eq-2.false,
+      same_word c.args.name.now _ c.as_slice-else-eq-2.ensures c.eq-else-eq-2.ensures c.if-eq-3.false,
+      same_word c.args.name.now _ c.as_slice-else-eq-3.ensures c.eq-else-eq-3.ensures c.if-eq-4.false,
+      same_word c.args.name.now _ c.as_slice-else-eq-4.ensures c.eq-else-eq-4.ensures c.if-eq-5.false,
+      same_word c.args.name.now _ c.as_slice-else-eq-5.ensures c.eq-else-eq-5.ensures c.if-eq-6.false,
+      same_word c.args.name.now _ c.as_slice-else-eq-6.ensures c.eq-else-eq-6.ensures c.if-eq-7.true,
     ) c.read_colour.ensures
 
-pub returns : goal.returns
+pub returns-else-eq-7 : goal.returns-else-eq-7
 unfolding read_call
-returns c =
+returns-else-eq-7 c =
     rw (
-      sym c.same.ensures ∙ c.if-same.false,
-      sym c.same-2.ensures ∙ c.if-same-2.false,
-      sym c.same-3.ensures ∙ c.if-same-3.false,
-      sym c.same-4.ensures ∙ c.if-same-4.false,
-      sym c.same-5.ensures ∙ c.if-same-5.false,
-      sym c.same-6.ensures ∙ c.if-same-6.false,
-      sym c.same-7.ensures ∙ c.if-same-7.false,
+      same_word c.args.name.now _ c.as_slice.ensures c.eq.ensures c.if-eq.false,
+      same_word c.args.name.now _ c.as_slice-else-eq.ensures c.eq-else-eq.ensures c.if-eq-2.false,
+      same_word c.args.name.now _ c.as_slice-else-eq-2.ensures c.eq-else-eq-2.ensures c.if-eq-3.false,
+      same_word c.args.name.now _ c.as_slice-else-eq-3.ensures c.eq-else-eq-3.ensures c.if-eq-4.false,
+      same_word c.args.name.now _ c.as_slice-else-eq-4.ensures c.eq-else-eq-4.ensures c.if-eq-5.false,
+      same_word c.args.name.now _ c.as_slice-else-eq-5.ensures c.eq-else-eq-5.ensures c.if-eq-6.false,
+      same_word c.args.name.now _ c.as_slice-else-eq-6.ensures c.eq-else-eq-6.ensures c.if-eq-7.false,
     ) refl

@@ -1,12 +1,15 @@
--- `captures::read_colour` meets its contract. The argument goes on with the words behind it.
+-- `captures::read_colour` meets its contract. Each argument goes on with the words behind it.
 use mathlib.Core.Path.{sym, ◌∙◌}
+use Rattle.std.proofs.lemmas.Result.{err_from_is_err_and}
 use Rattle.captures.specs.Reading.{read_colour}
 use Rattle.captures.proofs.read_colour.Goals as goal
 
-pub returns-in-Wrong : goal.returns-in-Wrong
+pub returns-in_err-switch : goal.returns-in_err-switch
 unfolding read_colour
-returns-in-Wrong c = sym (c.in-Wrong.ensures _)
+returns-in_err-switch c =
+    let p = err_from_is_err_and c.from_residual.result c.from_residual.ensures.1 in
+    rw (p.1, p.2) (sym (c.in_err-switch.ensures _))
 
-pub returns-in-Read : goal.returns-in-Read
+pub returns : goal.returns
 unfolding read_colour
-returns-in-Read c = c.whole.ensures ∙ sym (c.in-Read.ensures.goes _)
+returns c = c.whole.ensures ∙ sym (c.in_ok-switch.ensures.goes _)

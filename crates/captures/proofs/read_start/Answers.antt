@@ -1,16 +1,21 @@
 -- `captures::read_start` meets its contract. Each argument goes on with the words behind it.
 use mathlib.Core.Path.{sym, ◌∙◌}
+use Rattle.std.proofs.lemmas.Result.{err_from_is_err_and}
 use Rattle.captures.specs.Reading.{read_start}
 use Rattle.captures.proofs.read_start.Goals as goal
 
-pub returns-in-Wrong : goal.returns-in-Wrong
+pub returns-in_err-device : goal.returns-in_err-device
 unfolding read_start
-returns-in-Wrong c = sym (c.in-Wrong.ensures _)
+returns-in_err-device c =
+    let p = err_from_is_err_and c.from_residual.result c.from_residual.ensures.1 in
+    rw (p.1, p.2) (sym (c.in_err-device.ensures _))
 
-pub returns-in-Wrong-next_argument : goal.returns-in-Wrong-next_argument
+pub returns-in_err-colour : goal.returns-in_err-colour
 unfolding read_start
-returns-in-Wrong-next_argument c = sym (c.in-Wrong-next_argument.ensures _) ∙ sym (c.in-Read.ensures.goes _)
+returns-in_err-colour c =
+    let p = err_from_is_err_and c.from_residual-in_err-colour.result c.from_residual-in_err-colour.ensures.1 in
+    rw (p.1, p.2) (sym (c.in_err-colour.ensures _) ∙ sym (c.in_ok-device.ensures.goes _))
 
-pub returns-in-Read-next_argument : goal.returns-in-Read-next_argument
+pub returns : goal.returns
 unfolding read_start
-returns-in-Read-next_argument c = c.whole.ensures ∙ sym (c.in-Read-next_argument.ensures.goes _) ∙ sym (c.in-Read.ensures.goes _)
+returns c = c.whole.ensures ∙ sym (c.in_ok-colour.ensures.goes _) ∙ sym (c.in_ok-device.ensures.goes _)

@@ -18,7 +18,7 @@ pub returns-then-s-le8 : goal.returns-then-s-le8
 unfolding joins
 returns-then-s-le8 c =
     rw
-    (sym c.is_open-allowed.ensures, sym c.does_enter.ensures ∙ c.if-does_enter.false, lt-leb _ _ c.if-s-le1.false, le-leb _ _ c.if-s-le8.true, c.does_wait.ensures)
+    (sym c.is_open-allowed.ensures, sym c.does_enter.ensures ∙ c.if-does_enter.false, lt-leb _ _ c.if-s-le1.false, le-leb _ _ c.if-s-le8.true, c.is_some.ensures)
 
 pub returns : goal.returns
 unfolding joins

@@ -1,24 +1,15 @@
--- `filing::last_part` meets its contract. The invariant: from the name so far and the bytes that are left, the same name comes out.
-use mathlib.Core.Path.{◌≡◌, sym, ◌∙◌}
-use native.Mathlib.Omega.{arith}
-use lib.ListN.{length, drop}
-use Rattle.filing.proofs.Names.{slash, no_slash, ended}
-use Rattle.filing.proofs.last_part.Goals.{then-path-i-eq47, else-path-i-eq47}
+-- `filing::last_part` meets its contract.
+use mathlib.Core.Path.{sym, ◌∙◌}
+use Prim.Native.Nat.{◌+◌}
+use Rattle.std.proofs.Common.{rules}
+use Rattle.std.proofs.lemmas.List.{take_rest}
+use Rattle.filing.proofs.Names.{after_slash, no_slash}
 use Rattle.filing.proofs.last_part.Goals as goal
 
-pub loop-i-preserved : goal.loop-i-preserved
-loop-i-preserved c =
+pub returns-in-Some : goal.returns-in-Some
+returns-in-Some c =
     let path = c.args.path.now in
-    let now = c.loop-i.invariant.2 in
-    elim c.if-path-i-eq47.branch [
-      | then-path-i-eq47 w ↦
-          (omega arith, omega arith, rw w.start-is (sym (slash (drop c.loop-i.start path) path c.loop-i.i (omega arith) w.if-path-i-eq47.true) ∙ now))
-      | else-path-i-eq47 w ↦
-          (omega arith, omega arith, rw w.start-is (sym (no_slash (drop c.loop-i.start path) path c.loop-i.i (omega arith) w.if-path-i-eq47.false) ∙ now))
-    ]
+    take_rest path (c.in-Some.slash + 1) ∙ after_slash path c.in-Some.slash (search rules) (search rules) (search rules)
 
-pub returns : goal.returns
-returns c =
-    let path = c.args.path.now in
-    let full : c.loop-i.i ≡ length path = omega arith in
-    (c.loop-i.invariant.0, ended (drop c.loop-i.start path) path c.loop-i.i (omega arith) ∙ c.loop-i.invariant.2)
+pub returns-in-None : goal.returns-in-None
+returns-in-None c = sym (no_slash c.args.path.now c.args.path.now (search rules))

@@ -1,16 +1,27 @@
 -- `filing::shown` meets its contract.
+use Prim.Native.Nat.{◌<◌, ◌≤◌}
+use mathlib.Core.Path.{refl}
+use native.Mathlib.Omega.{arith}
 use borrow.Author.Tests.{le-leb, lt-leb}
 use Rattle.filing.specs.Names.{shown}
 use Rattle.filing.proofs.shown.Goals as goal
 
-pub returns-then-byte-lt32 : goal.returns-then-byte-lt32
+pub returns-in-32-to-126 : goal.returns-in-32-to-126
 unfolding shown
-returns-then-byte-lt32 c = simp (lt-leb _ _ c.if-byte-lt32.true)
+returns-in-32-to-126 c =
+    let low : 32 ≤ c.args.byte = omega arith in
+    let high : c.args.byte ≤ 126 = omega arith in
+    simp (le-leb 32 c.args.byte low, le-leb c.args.byte 126 high)
 
-pub returns-then-byte-gt126 : goal.returns-then-byte-gt126
+pub returns-in_default : goal.returns-in_default
 unfolding shown
-returns-then-byte-gt126 c = simp (le-leb _ _ c.if-byte-lt32.false, lt-leb _ _ c.if-byte-gt126.true)
+returns-in_default c =
+    let low : c.args.byte < 32 = omega arith in
+    simp (lt-leb 32 c.args.byte low)
 
-pub returns : goal.returns
+pub returns-in_default-2 : goal.returns-in_default-2
 unfolding shown
-returns c = simp (le-leb _ _ c.if-byte-lt32.false, le-leb _ _ c.if-byte-gt126.false)
+returns-in_default-2 c =
+    let low : 32 ≤ c.args.byte = omega arith in
+    let high : 126 < c.args.byte = omega arith in
+    simp (le-leb 32 c.args.byte low, lt-leb c.args.byte 126 high)

@@ -1,4 +1,6 @@
 -- `lcd::mixed` meets its contract: each sum of shifts is the sum of products that `mix` has.
+use Prim.Native.Nat.{◌<◌}
+use native.Mathlib.Omega.{arith}
 use Rattle.lcd.specs.Mix.{mix}
 use Rattle.lcd.proofs.Sums.{red_sum, green_sum, blue_sum}
 use Rattle.lcd.proofs.mixed.Goals as goal
@@ -6,10 +8,9 @@ use Rattle.lcd.proofs.mixed.Goals as goal
 pub returns : goal.returns
 unfolding mix
 returns c =
-    let bytes = c.struct_known-1.given in
-    let r = bytes.0.fits in
-    let g = bytes.1.0.fits in
-    let b = bytes.1.1.0.fits in
+    let r : c.args.c.r < 256 = omega arith in
+    let g : c.args.c.g < 256 = omega arith in
+    let b : c.args.c.b < 256 = omega arith in
     simp (
       c.quarter_of.ensures,
       c.quarter_of-2.ensures,

@@ -8,7 +8,7 @@ use Rattle.line_sets.specs.Lines.{row_line}
 use Rattle.line_sets.specs.Numbers.{are_sets}
 use Rattle.line_sets.proofs.Lines.{no_row, row_elsewhere, row_touches, are_sets_all, are_sets_fails}
 use Rattle.line_sets.proofs.are_sets.Invariants.{SetsTo}
-use Rattle.line_sets.proofs.are_sets.Goals.{then-line-lt-HEIGHT+else-not-is_set, else-line-lt-HEIGHT}
+use Rattle.line_sets.proofs.are_sets.Goals.{else-line-lt-HEIGHT-via-then-line-lt-HEIGHT+else-not-is_set, else-line-lt-HEIGHT-via-else-line-lt-HEIGHT}
 use Rattle.line_sets.proofs.are_sets.Goals as goal
 
 none_yet : (sets : List ℕ) (y : ℕ) → SetsTo sets y 0
@@ -30,32 +30,32 @@ sets_through : (sets : List ℕ) (y tall : ℕ) → SetsTo sets y tall → are_s
 unfolding SetsTo
 sets_through sets y tall h = are_sets_all sets y tall h
 
-pub loop-row-init : goal.loop-row-init
-loop-row-init c = (omega arith, none_yet _ _)
+pub loop-below-init : goal.loop-below-init
+loop-below-init c = (omega arith, none_yet _ _)
 
 pub returns-then-not-is_set : goal.returns-then-not-is_set
 returns-then-not-is_set c =
     let a = c.args in
     sym
     (are_sets_fails a.sets.now a.y a.tall c.row_line-line.result (omega arith)
-    (row_touches a.y c.loop-row.row c.row_line-line.result (omega arith) a.tall (omega arith) c.row_line-line.ensures)
+    (row_touches a.y c.loop-below.below c.row_line-line.result (omega arith) a.tall (omega arith) c.row_line-line.ensures)
     (sym c.is_set.ensures ∙ c.if-not-is_set.true))
 
-pub loop-row-preserved : goal.loop-row-preserved
-loop-row-preserved c =
+pub loop-below-preserved : goal.loop-below-preserved
+loop-below-preserved c =
     let own : c.row_line-line.result < height → is_set (get_or c.args.sets.now c.row_line-line.result 0) ≡ true =
     λ h.
-    elim c.if-line-lt-HEIGHT.branch [
-      | then-line-lt-HEIGHT+else-not-is_set w ↦ sym w.is_set.ensures ∙ w.if-not-is_set.false
-      | else-line-lt-HEIGHT w ↦ absurd (omega (arith, w.if-line-lt-HEIGHT.false, h))
+    elim c.else-line-lt-HEIGHT.branch [
+      | else-line-lt-HEIGHT-via-then-line-lt-HEIGHT+else-not-is_set w ↦ sym w.is_set.ensures ∙ w.if-not-is_set.false
+      | else-line-lt-HEIGHT-via-else-line-lt-HEIGHT w ↦ absurd (omega (arith, w.if-line-lt-HEIGHT.false, h))
     ] in (
-      omega arith,
-      sets_more _ _ _ _ (omega arith) c.row_line-line.ensures
+      omega (arith, c.loop-below-test.true),
+      sets_more _ _ _ _ (omega (arith, c.loop-below-test.true, c.ranges.tall)) c.row_line-line.ensures
           own
-          c.loop-row.invariant.1,
+          c.loop-below.invariant.1,
     )
 
 pub returns : goal.returns
 returns c =
-    let full : c.loop-row.row ≡ c.args.tall = omega arith in
-    sym (rw full at (sets_through _ _ _ c.loop-row.invariant.1))
+    let full : c.loop-below.below ≡ c.args.tall = omega arith in
+    sym (rw full at (sets_through _ _ _ c.loop-below.invariant.1))

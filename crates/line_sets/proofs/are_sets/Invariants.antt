@@ -1,5 +1,5 @@
 -- The invariant: the numbers of the lines of the rows so far are sets.
-use Rattle.std.proofs.Common.{◌≡◌, ℕ, ◌-◌, ◌<◌, ◌≤◌, true, List, get_or}
+use Rattle.std.proofs.Common.{◌≡◌, ℕ, ◌<◌, ◌≤◌, true, List, get_or}
 use Rattle.hardware.specs.Screen.{height}
 use Rattle.sprite.specs.Oam.{in_range}
 use Rattle.line_sets.specs.Sets.{is_set}
@@ -9,8 +9,5 @@ use Rattle.line_sets.proofs.are_sets.Given as goal
 unfoldable pub SetsTo : List ℕ → ℕ → ℕ → Type 0
 SetsTo sets y row = (line : ℕ) → line < height → in_range y line row ≡ true → is_set (get_or sets line 0) ≡ true
 
-abbrev pub invariant-loop-row : goal.invariant-loop-row
-invariant-loop-row l = (l.row ≤ l.tall) × SetsTo l.sets l.y l.row
-
-abbrev pub decreases-loop-row : goal.decreases-loop-row
-decreases-loop-row l = l.tall - l.row
+abbrev pub invariant-loop-below : goal.invariant-loop-below
+invariant-loop-below l = (l.below ≤ l.tall) × SetsTo l.sets l.y l.below

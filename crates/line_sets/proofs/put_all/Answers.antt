@@ -73,7 +73,7 @@ module _ (oam : List ℕ) (tall n : ℕ) (sets : List ℕ) (w : Has oam tall n s
 
 pub loop-i-init : goal.loop-i-init
 loop-i-init c =
-    (omega arith, has_none _ _ _ (c.clear.ensures ∙ rw c.requires.1))
+    (omega arith, has_none _ _ _ (c.fill.ensures.after (λ y e. e) ∙ rw c.requires.1))
 
 pub put_lines-requires : goal.put_lines-requires
 put_lines-requires c =

@@ -1,5 +1,5 @@
 -- The invariant: the lines of the rows so far have the entry put in, or taken out.
-use Rattle.std.proofs.Common.{◌≡◌, ℕ, ◌-◌, ◌<◌, ◌≤◌, Bool, List, length, get_or}
+use Rattle.std.proofs.Common.{◌≡◌, ℕ, ◌<◌, ◌≤◌, Bool, List, length, get_or}
 use Rattle.hardware.specs.Screen.{height}
 use Rattle.line_sets.specs.Lines.{put_on}
 use Rattle.line_sets.proofs.put_lines.Given as goal
@@ -10,6 +10,3 @@ PutTo sets₀ i on y row sets = (line : ℕ) → line < height → get_or sets l
 
 abbrev pub invariant-loop-row : goal.invariant-loop-row
 invariant-loop-row l = (l.row ≤ l.tall) × (length l.sets ≡ length l.initial.sets) × PutTo l.initial.sets l.i l.on l.y l.row l.sets
-
-abbrev pub decreases-loop-row : goal.decreases-loop-row
-decreases-loop-row l = l.tall - l.row

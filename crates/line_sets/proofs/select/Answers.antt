@@ -1,16 +1,17 @@
 -- `line_sets::select` meets its contract.
-use Rattle.std.proofs.Common.{◌≡◌, ℕ, ◌+◌, ◌-◌, ◌^◌, ◌<◌, ◌≤◌, List, [], ◌∷◌, ◌++◌, length, take, drop, set, sym, ap, ◌∙◌, arith, length-append, length-drop, take_all, drop-drop, take-add, ltb-true, lt-ltb}
-use lib.Count.{count_trailing_zeros}
+use Rattle.std.proofs.Common.{◌≡◌, ℕ, ◌+◌, ◌-◌, ◌^◌, ◌<◌, ◌≤◌, List, [], ◌∷◌, ◌++◌, length, min, true, take, drop, set, sym, ap, ◌∙◌, arith, length-append, length-drop, refl, length-take, take_all, drop-drop, take-add, ltb-true, lt-ltb}
+use Rattle.std.proofs.Math.Nat.{min_comm}
+use lib.Count.{count_trailing_zeros, ones}
 use Rattle.sprite.specs.Oam.{entry}
 use Rattle.sprite.specs.Pick.{copy_of, slots_of}
 use Rattle.sprite.specs.declared.Sprite.{Sprite}
 use Rattle.sprite.specs.declared.SelectedSprite.{SelectedSprite}
 use Rattle.sprite.specs.declared.Selection.{Selection}
 use Rattle.sprite.proofs.Slots.{slots_more}
-use Rattle.line_sets.specs.Sets.{entries, members, selection_from}
-use Rattle.line_sets.proofs.Members.{members_none, lowered}
+use Rattle.line_sets.specs.Sets.{entries, is_set, members, selection_from}
+use Rattle.line_sets.proofs.Members.{members_none, members_count, lowered}
 use Rattle.line_sets.proofs.select.Invariants.{Holds}
-use Rattle.line_sets.proofs.select.Goals.{else-loop-count-test, then-loop-count-test+then-rest-eq0}
+use Rattle.line_sets.proofs.select.Goals.{else-loop-k-test, then-loop-k-test+then-rest-eq0}
 use Rattle.line_sets.proofs.select.Goals as goal
 
 -- the first of what is left joins what was taken
@@ -45,9 +46,9 @@ module _ {oam : List ℕ} {s : ℕ} {former : List SelectedSprite} {count rest :
       }
 
   -- ten are taken, or none is left
-  ends : take count (members s) ≡ take 10 (members s)
-      → ◌≡◌ {A = Selection} (record { count = count; slots = slots }) (selection_from oam s former)
-  ends e = rw (← e, w.held, w.counted)
+  ends : is_set s ≡ true → take count (members s) ≡ take 10 (members s)
+      → ◌≡◌ {A = Selection} (record { count = min (ones s) 10; slots = slots }) (selection_from oam s former)
+  ends h e = rw (← e, w.held, e, length-take 10 (members s), members_count s h, min_comm (ones s) 10) refl
 
   holds_ten : count ≡ 10 → take count (members s) ≡ take 10 (members s)
   holds_ten e = ap (λ (n : ℕ). take n (members s)) e
@@ -59,28 +60,26 @@ module _ {oam : List ℕ} {s : ℕ} {former : List SelectedSprite} {count rest :
 
 pub at-sprite-requires : goal.at-sprite-requires
 at-sprite-requires c =
-    let low = lowered c.loop-count.rest c.loop-count.invariant.1.is_set c.if-rest-eq0.false in
+    let low = lowered c.loop-k.rest c.loop-k.invariant.is_set c.if-rest-eq0.false in
     omega (arith, low.entry)
 
 pub bit-rest-requires : goal.bit-rest-requires
-bit-rest-requires c =
-    (lowered c.loop-count.rest c.loop-count.invariant.1.is_set c.if-rest-eq0.false).entry
+bit-rest-requires c = (lowered c.loop-k.rest c.loop-k.invariant.is_set c.if-rest-eq0.false).entry
 
 pub overflow_sub-rest : goal.overflow_sub-rest
 overflow_sub-rest c =
-    rw c.bit-rest.ensures (lowered c.loop-count.rest c.loop-count.invariant.1.is_set c.if-rest-eq0.false).fits
+    rw c.bit-rest.ensures (lowered c.loop-k.rest c.loop-k.invariant.is_set c.if-rest-eq0.false).fits
 
-pub loop-count-preserved : goal.loop-count-preserved
-loop-count-preserved c =
-    let start = c in (
-      omega arith,
-      rw c.bit-rest.ensures (holds_more c.loop-count.invariant.1 (omega (arith, start.well_formed)) c.if-rest-eq0.false c.at-sprite.ensures),
-    )
+pub loop-k-preserved : goal.loop-k-preserved
+loop-k-preserved c =
+    let start = c in
+    rw c.bit-rest.ensures (holds_more c.loop-k.invariant (omega (arith, start.well_formed)) c.if-rest-eq0.false c.at-sprite.ensures)
 
 pub returns : goal.returns
 returns c =
-    let w = c.loop-count.invariant.1 in
-    elim c.loop-count-test.branch [
-      | else-loop-count-test t ↦ ends w (holds_ten w (omega (arith, t.loop-count-test.false)))
-      | then-loop-count-test+then-rest-eq0 t ↦ ends w (holds_all w (omega arith) t.if-rest-eq0.true)
-    ]
+    let w = c.loop-k.invariant in
+    let own = c in
+    rw c.min.ensures (elim c.loop-k-test.branch [
+      | else-loop-k-test t ↦ ends w own.requires.1 (holds_ten w (omega (arith, t.loop-k-test.false)))
+      | then-loop-k-test+then-rest-eq0 t ↦ ends w own.requires.1 (holds_all w (omega (arith, t.loop-k-test.true)) t.if-rest-eq0.true)
+    ])

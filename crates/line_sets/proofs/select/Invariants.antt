@@ -1,5 +1,5 @@
 -- The invariant: the slots hold the entries taken so far, and the number that is left has the others.
-use Rattle.std.proofs.Common.{◌≡◌, ℕ, ◌-◌, ◌≤◌, true, List, length, take, drop}
+use Rattle.std.proofs.Common.{◌≡◌, ℕ, true, List, length, take, drop}
 use Rattle.sprite.specs.Pick.{slots_of}
 use Rattle.sprite.specs.declared.SelectedSprite.{SelectedSprite}
 use Rattle.line_sets.specs.Sets.{is_set, members}
@@ -11,8 +11,5 @@ pub record Holds (oam : List ℕ) (s : ℕ) (former : List SelectedSprite) (coun
   pub counted : length (take count (members s)) ≡ count
   pub held : slots ≡ slots_of oam (take count (members s)) former
 
-abbrev pub invariant-loop-count : goal.invariant-loop-count
-invariant-loop-count l = (l.count ≤ 10) × Holds l.oam l.set l.initial.slots l.count l.rest l.slots
-
-abbrev pub decreases-loop-count : goal.decreases-loop-count
-decreases-loop-count l = 10 - l.count
+abbrev pub invariant-loop-k : goal.invariant-loop-k
+invariant-loop-k l = Holds l.oam l.set l.initial.slots l.k l.rest l.slots

@@ -4,4 +4,4 @@ use Rattle.oam_bug.proofs.copy_row.Goals as goal
 
 pub returns : goal.returns
 unfolding row_copied
-returns c = cc
+returns c = simp c.row_at-words.ensures at c.put_row.ensures

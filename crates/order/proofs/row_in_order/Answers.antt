@@ -1,17 +1,14 @@
--- `order::row_in_order` meets its contract. The invariant: the answer is that of the colours from k on.
-use mathlib.Core.Path.{refl}
-use native.Mathlib.Omega.{arith}
-use borrow.Author.Tests.{le-leb, lt-leb}
-use Rattle.order.proofs.Tested.{left_more, left_fails, left_end}
+-- `order::row_in_order` meets its contract.
+use mathlib.Core.Path.{◌∙◌}
+use borrow.Author.Tests.{tests}
+use Rattle.std.proofs.Common.{rules}
+use Rattle.std.proofs.lemmas.Iterator.{YieldsList-from_slice}
+use Rattle.std.proofs.lemmas.Iterator.Search.{all_from_yields_List}
+use Rattle.logic.proofs.Listed.{all_every}
+use Rattle.order.specs.Order.{colour_order}
 use Rattle.order.proofs.row_in_order.Goals as goal
 
-pub returns-then-row-k-gt3 : goal.returns-then-row-k-gt3
-returns-then-row-k-gt3 c =
-    left_fails 0 (omega (arith, c.well_formed)) refl (lt-leb _ _ c.if-row-k-gt3.true) c.loop-k.invariant
-
-pub loop-k-preserved : goal.loop-k-preserved
-loop-k-preserved c =
-    left_more 0 (omega (arith, c.well_formed)) refl (le-leb _ _ c.if-row-k-gt3.false) c.loop-k.invariant
-
 pub returns : goal.returns
-returns c = left_end (omega (arith, c.well_formed)) c.loop-k.invariant
+returns c =
+    all_from_yields_List colour_order _ _ _ c.all.ensures.ran (YieldsList-from_slice c.args.row cc) (λ x b q k. search (rules, tests))
+    ∙ all_every colour_order c.args.row

@@ -1,20 +1,19 @@
--- `order::selection_in_order` meets its contract. The invariant: the answer is that of the selected slots from k on.
-use borrow.Author.Tests.{le-leb, lt-leb}
-use Rattle.order.proofs.Tested.{taken_more, taken_fails, taken_end}
+-- `order::selection_in_order` meets its contract.
+use mathlib.Core.Path.{◌∙◌}
+use native.Mathlib.Omega.{arith}
+use borrow.Author.Tests.{tests, le-leb}
+use lib.ListN.{take}
+use Rattle.std.proofs.Common.{rules}
+use Rattle.std.proofs.lemmas.Iterator.{YieldsList-from_slice}
+use Rattle.std.proofs.lemmas.Iterator.Search.{all_from_yields_List}
+use Rattle.logic.proofs.Listed.{all_every}
+use Rattle.order.specs.Order.{slot_order}
 use Rattle.order.proofs.selection_in_order.Goals as goal
 
-pub returns-then-slot-gt39 : goal.returns-then-slot-gt39
-returns-then-slot-gt39 c =
-    let v = c.loop-k.invariant in
-    rw (le-leb _ _ c.if-s-gt10.false)
-    (taken_fails _ _ v.0 _ c.loop-k-test.true (lt-leb _ _ c.if-slot-gt39.true) v.1)
-
-pub loop-k-preserved : goal.loop-k-preserved
-loop-k-preserved c =
-    let v = c.loop-k.invariant in
-    (v.0, taken_more _ _ v.0 _ c.loop-k-test.true (le-leb _ _ c.if-slot-gt39.false) v.1)
-
-pub returns : goal.returns
-returns c =
-    let v = c.loop-k.invariant in
-    rw (le-leb _ _ c.if-s-gt10.false) (taken_end _ _ v.0 c.loop-k-test.false v.1)
+pub returns-then-s-le10 : goal.returns-then-s-le10
+returns-then-s-le10 c =
+    let s = c.args.s in
+    let selected = take s.count s.slots in
+    rw (le-leb _ _ c.if-s-le10.true)
+    (all_from_yields_List slot_order _ _ c.all.result c.all.ensures.ran (YieldsList-from_slice selected (grind arith)) (λ x b q k. search (rules, tests))
+    ∙ all_every slot_order selected)

@@ -1,39 +1,22 @@
--- `order::sprite_in_order` meets its contract. The invariant: the answer is that of the queued pixels from k on.
-use Prim.Native.Nat.{◌+◌, ◌%◌}
+-- `order::sprite_in_order` meets its contract.
+use mathlib.Core.Path.{refl, ◌∙◌}
+use Prim.Native.Nat.{ℕ, ◌+◌, ◌%◌}
 use native.Mathlib.Omega.{arith}
-use borrow.Author.Tests.{le-leb, lt-leb}
+use borrow.Author.Tests.{tests, le-leb}
 use lib.ListN.{get_or}
+use Rattle.std.proofs.Common.{rules}
+use Rattle.std.proofs.lemmas.Iterator.{YieldsList-from_range}
+use Rattle.std.proofs.lemmas.Iterator.Search.{all_from_yields_List}
 use Rattle.fifo.specs.Sprites.{sprite_blank}
-use Rattle.order.proofs.Tested.{ring_more, ring_fails, ring_end}
+use Rattle.order.specs.Order.{sprite_pixel_order}
+use Rattle.order.proofs.Tested.{ring_all}
 use Rattle.order.proofs.sprite_in_order.Goals as goal
 
-pub returns-then-pixel-gt3 : goal.returns-then-pixel-gt3
-returns-then-pixel-gt3 c =
-    rw (le-leb _ _ c.if-q-gt8.false)
-    (ring_fails 8 sprite_blank _ _ _ c.loop-k-test.true (rw (lt-leb _ _ c.if-pixel-gt3.true)) c.loop-k.invariant)
-
-pub returns-then-pixel-gt1 : goal.returns-then-pixel-gt1
-returns-then-pixel-gt1 c =
-    rw (le-leb _ _ c.if-q-gt8.false)
-    (ring_fails 8 sprite_blank _ _ _ c.loop-k-test.true (rw (le-leb _ _ c.if-pixel-gt3.false, lt-leb _ _ c.if-pixel-gt1.true)) c.loop-k.invariant)
-
-pub returns-then-pixel-gt39 : goal.returns-then-pixel-gt39
-returns-then-pixel-gt39 c =
-    let a = c.args.q in
-    let pixel = get_or a.pixels ((a.head + c.loop-k.k) % 8) sprite_blank in
-    rw (le-leb _ _ c.if-q-gt8.false)
-    (ring_fails 8 sprite_blank _ _ _ c.loop-k-test.true
-    (rw (le-leb _ _ c.if-pixel-gt3.false, le-leb _ _ c.if-pixel-gt1.false) (lt-leb pixel.index 39 (omega arith)))
-    c.loop-k.invariant)
-
-pub loop-k-preserved : goal.loop-k-preserved
-loop-k-preserved c =
-    let a = c.args.q in
-    let pixel = get_or a.pixels ((a.head + c.loop-k.k) % 8) sprite_blank in
-    ring_more 8 sprite_blank _ _ _ c.loop-k-test.true
-    (rw (le-leb _ _ c.if-pixel-gt3.false, le-leb _ _ c.if-pixel-gt1.false) (le-leb pixel.index 39 (omega arith)))
-    c.loop-k.invariant
-
-pub returns : goal.returns
-returns c =
-    rw (le-leb _ _ c.if-q-gt8.false) (ring_end 8 sprite_blank _ _ _ c.loop-k-test.false c.loop-k.invariant)
+pub returns-then-q-le8 : goal.returns-then-q-le8
+returns-then-q-le8 c =
+    let q = c.args.q in
+    rw (le-leb _ _ c.if-q-le8.true)
+    (all_from_yields_List (λ (k : ℕ). sprite_pixel_order (get_or q.pixels ((q.head + k) % 8) sprite_blank)) _ _ c.all.result c.all.ensures.ran
+    (YieldsList-from_range 0 q.len q.len refl (omega arith))
+    (λ x b q k. search (rules, tests))
+    ∙ ring_all sprite_pixel_order 8 sprite_blank q.pixels q.head q.len)

@@ -13,4 +13,4 @@ returns-in_default c = rw (le-leb _ _ c.if-p-gt8.false, c.in_default.is)
 
 pub returns : goal.returns
 unfolding fed
-returns c = rw (c.push_row.ensures, le-leb _ _ c.if-p-gt8.false, c.in-Row.is)
+returns c = rw (c.push_row.ensures, le-leb _ _ c.if-p-gt8.false, c.in-Some.is)

@@ -1,10 +1,10 @@
--- `pixel::add_sprites` meets its contract. The invariant: k of the selected sprites are laid in, the others are left.
-use mathlib.Core.Path.{◌≡◌, refl, sym, subst, ◌∙◌}
-use mathlib.Core.List.{List, []}
-use Prim.Native.Nat.{ℕ, ◌+◌, ◌-◌, ◌≤◌, ◌<◌}
+-- `pixel::add_sprites` meets its contract. The invariant: so many of the selected sprites are laid in, the others are left.
+use mathlib.Core.Path.{◌≡◌, sym, ◌∙◌}
+use mathlib.Core.List.{List}
+use Prim.Native.Nat.{ℕ, ◌+◌, ◌≤◌, ◌<◌}
 use native.Mathlib.Numerals.{add-one}
-use lib.ListN.{length, get_or, take, drop}
-use lib.Seq.{drop-cons, drop-length, get_or-take, length-take-le}
+use lib.ListN.{length, get_or, drop, drop_of_length-le}
+use lib.Seq.{drop-cons}
 use Rattle.sprite.specs.declared.SelectedSprite.{SelectedSprite}
 use Rattle.fifo.specs.declared.SpriteFifo.{SpriteFifo}
 use Rattle.state.specs.declared.Registers.{Registers}
@@ -14,39 +14,24 @@ use Rattle.pixel.proofs.Added.{added_len}
 use Rattle.pixel.proofs.add_sprites.Given as goal
 
 module _ (vram : List ℕ) (r : Registers) (palettes : List ℕ) (at : Spot) where
-  -- the queue while the first `count` of the slots are laid in: at most eight, k are through and the others are left
-  pub record Laying (start : SpriteFifo) (count : ℕ) (slots : List SelectedSprite) (q : SpriteFifo) (k : ℕ) : Type 0 where
-    pub there : count ≤ length slots
+  -- the queue while the selected sprites are laid in: at most eight, k are through and the others are left
+  pub record Laying (start : SpriteFifo) (selected : List SelectedSprite) (q : SpriteFifo) (k : ℕ) : Type 0 where
     pub few : q.len ≤ 8
-    pub left : all_added vram r palettes at start (take count slots) ≡ all_added vram r palettes at q (drop k (take count slots))
+    pub left : all_added vram r palettes at start selected ≡ all_added vram r palettes at q (drop k selected)
 
-  pub left_none : {q : SpriteFifo} {count : ℕ} {slots : List SelectedSprite} → count ≤ length slots → q.len ≤ 8 → Laying q count slots q 0
-  left_none n h = record { there = n; few = h; left = refl }
+  module _ {start q : SpriteFifo} {selected : List SelectedSprite} {k : ℕ} where
+    pub left_more : {next : SpriteFifo} (d : SelectedSprite) → k < length selected → next ≡ sprite_added vram r palettes at q (get_or selected k d)
+        → Laying start selected q k → Laying start selected next (k + 1)
+    unfolding all_added
+    left_more d h e w =
+        record {
+          few = rw e (added_len vram r palettes at q (get_or selected k d) w.few);
+          left = w.left ∙ rw (drop-cons selected k d h, e, add-one);
+        }
 
-  pub left_more : {start q next : SpriteFifo} {count : ℕ} {slots : List SelectedSprite} {k : ℕ} (d : SelectedSprite)
-      → k < count → next ≡ sprite_added vram r palettes at q (get_or slots k d) → Laying start count slots q k → Laying start count slots next (k + 1)
-  unfolding all_added
-  left_more {start} {q} {next} {count} {slots} {k} d h e w =
-      let here = drop-cons (take count slots) k d (rw (length-take-le count slots w.there) h) in
-      let this = get_or-take count slots k d h in
-      record {
-        there = w.there;
-        few = rw e (added_len vram r palettes at q (get_or slots k d) w.few);
-        left = w.left ∙ rw (here, this, e, add-one);
-      }
+    pub left_all : length selected ≤ k → Laying start selected q k → q ≡ all_added vram r palettes at start selected
+    unfolding all_added
+    left_all h w = sym (w.left ∙ rw (drop_of_length-le selected h))
 
-  pub left_all : {start q : SpriteFifo} {count : ℕ} {slots : List SelectedSprite} {k : ℕ} → k ≡ count → Laying start count slots q k
-      → q ≡ all_added vram r palettes at start (take count slots)
-  unfolding all_added
-  left_all {start} {q} {count} {slots} {k} e w =
-      let none : drop k (take count slots) ≡ [] =
-      subst (λ (m : ℕ). drop m (take count slots) ≡ []) (length-take-le count slots w.there ∙ sym e) (drop-length (take count slots))
-      in
-      sym (w.left ∙ rw none)
-
-abbrev pub invariant-loop-k : goal.invariant-loop-k
-invariant-loop-k l =
-    (l.k ≤ l.count) × Laying l.vram l.r l.palettes.bytes l.at l.initial.queue l.count l.slots l.queue l.k
-
-abbrev pub decreases-loop-k : goal.decreases-loop-k
-decreases-loop-k l = l.count - l.k
+abbrev pub invariant-loop-slot : goal.invariant-loop-slot
+invariant-loop-slot l = Laying l.vram l.r l.palettes.bytes l.at l.initial.queue l.slot-items l.queue l.slot-index

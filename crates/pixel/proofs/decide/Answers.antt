@@ -8,8 +8,8 @@ returns-in_default c = rw c.in_default.is
 
 pub returns-then-sprite_wins : goal.returns-then-sprite_wins
 unfolding winner
-returns-then-sprite_wins c = rw (c.in-Pixel.is, ← c.sprite_wins.ensures, c.if-sprite_wins.true)
+returns-then-sprite_wins c = rw (c.in-Some.is, ← c.sprite_wins.ensures, c.if-sprite_wins.true)
 
-pub returns : goal.returns
+pub returns-else-sprite_wins : goal.returns-else-sprite_wins
 unfolding winner
-returns c = rw (c.in-Pixel.is, ← c.sprite_wins.ensures, c.if-sprite_wins.false)
+returns-else-sprite_wins c = rw (c.in-Some.is, ← c.sprite_wins.ensures, c.if-sprite_wins.false)

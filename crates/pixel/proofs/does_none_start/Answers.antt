@@ -1,18 +1,18 @@
--- `pixel::does_none_start` meets its contract. The invariant: the answer is that of the selected slots from i on.
-use mathlib.Core.Bool.{not}
-use mathlib.Core.Path.{sym, ◌∙◌, ap}
-use Rattle.order.proofs.Tested.{taken_more, taken_fails, taken_end}
+-- `pixel::does_none_start` meets its contract.
+use mathlib.Core.Path.{◌∙◌}
+use native.Mathlib.Omega.{arith}
+use borrow.Author.Tests.{tests}
+use lib.ListN.{take}
+use Rattle.std.proofs.Common.{rules}
+use Rattle.std.proofs.lemmas.Iterator.{YieldsList-from_slice}
+use Rattle.std.proofs.lemmas.Iterator.Search.{all_from_yields_List}
+use Rattle.logic.proofs.Listed.{all_every}
+use Rattle.pixel.specs.Sprites.{elsewhere}
 use Rattle.pixel.proofs.does_none_start.Goals as goal
 
-pub returns-then-starts_at : goal.returns-then-starts_at
-returns-then-starts_at c =
-    let v = c.loop-i.invariant in
-    taken_fails _ _ v.0 _ c.loop-i-test.true (ap not (sym c.starts_at.ensures ∙ c.if-starts_at.true)) v.1
-
-pub loop-i-preserved : goal.loop-i-preserved
-loop-i-preserved c =
-    let v = c.loop-i.invariant in
-    (v.0, taken_more _ _ v.0 _ c.loop-i-test.true (ap not (sym c.starts_at.ensures ∙ c.if-starts_at.false)) v.1)
-
 pub returns : goal.returns
-returns c = let v = c.loop-i.invariant in taken_end _ _ v.0 c.loop-i-test.false v.1
+returns c =
+    let l = c.args.l in
+    let selected = take l.count l.slots in
+    all_from_yields_List (elsewhere c.args.x) _ _ c.all.result c.all.ensures.ran (YieldsList-from_slice selected (grind arith)) (λ x b q k. search (rules, tests))
+    ∙ all_every (elsewhere c.args.x) selected

@@ -1,5 +1,5 @@
 -- `ports::write_oam` meets its contract.
-use mathlib.Core.Path.{sym, ◌∙◌}
+use mathlib.Core.Path.{sym}
 use native.Mathlib.Omega.{arith}
 use borrow.Author.Tests.{eqb-true, ltb-true}
 use Rattle.refusals.proofs.Ladder.{lowest_none, own_none}
@@ -7,5 +7,5 @@ use Rattle.ports.proofs.write_oam.Goals as goal
 
 pub write_oam-requires : goal.write_oam-requires
 write_oam-requires c =
-    let f = lowest_none _ _ (sym c.oam_number-number.ensures ∙ c.if-number-ne0.false) in
+    let f = lowest_none _ _ (sym c.in_ok-oam.ensures) in
     (eqb-true _ _ f.sized, ltb-true _ _ (own_none _ (omega arith) f.own))

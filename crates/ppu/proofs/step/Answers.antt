@@ -1,4 +1,5 @@
 -- `ppu::step` meets its contract.
+use mathlib.Core.Path.{refl}
 use native.Mathlib.Omega.{arith}
 use Rattle.logic.proofs.Both.{split}
 use Rattle.refusals.proofs.Ladder.{own_none}
@@ -10,7 +11,7 @@ use Rattle.ppu.proofs.step.Goals as goal
 
 pub step-taken-requires : goal.step-taken-requires
 step-taken-requires c =
-    let f = graded_fine _ c.step_number-number.ensures c.if-number-ne0.false in
+    let f = graded_fine _ c.in_ok-step.ensures refl in
     let sizes = split _ _ f.sized in
     let b = f.fine.beam in (
       record { tables = tables_sized sizes.0; pictures = pictures_sized sizes.1; fine = f.fine },

@@ -1,51 +1,40 @@
--- `registers::kept_bits` meets its contract. The invariant: the answer is that of the table from entry k on.
-use mathlib.Core.Path.{◌≡◌, refl, sym, ◌∙◌}
-use mathlib.Core.Bool.{cond}
-use mathlib.Core.List.{List, ◌∷◌}
-use Prim.Native.Nat.{ℕ, ◌+◌, ◌<◌, ◌≤◌}
-use native.Mathlib.Numerals.{add-one}
-use native.Mathlib.Omega.{arith}
-use borrow.Author.Tests.{eq-eqb, ne_eqb}
-use lib.Dec.{eqb}
-use lib.ListN.{length, get_or, drop, drop_of_length-le}
-use lib.Seq.{drop-cons}
-use Rattle.registers.specs.Registers.{register, writable, kept_in}
+-- `registers::kept_bits` meets its contract: the entry found is the first with the address.
+use Rattle.std.proofs.Common.{◌≡◌, refl, sym, ap, ◌∙◌, ℕ, Bool, true, false, cond, List, [], ◌∷◌, Option, Some, None, eqb, rules, tests, Bor}
+use Rattle.std.specs.Prelude.{MatchOption}
+use Rattle.std.specs.Option.{option_map}
+use Rattle.std.specs.List.{find}
+use Rattle.std.proofs.lemmas.Iterator.{YieldsList-from_slice}
+use Rattle.std.proofs.lemmas.Iterator.Search.{find_from_yields_List}
+use Rattle.registers.specs.Registers.{writable, kept_in}
 use Rattle.registers.specs.declared.Writable.{Writable}
 use Rattle.registers.proofs.kept_bits.Goals as goal
 
-abbrev none : Writable
-none = register 0 0
+-- the bits that an entry keeps, or 0 where there is none
+kept_by : Option Writable → ℕ
+kept_by None = 0
+kept_by (Some w) = w.1
 
-kept_in_cons : (w : Writable) (rest : List Writable) (address : ℕ)
-    → kept_in (w ∷ rest) address ≡ cond (eqb w.0 address) w.1 (kept_in rest address)
-unfolding kept_in
-kept_in_cons w rest address = refl
+first_of : (here : Bool) (w : Writable) (kept : ℕ) (o : Option Writable)
+    → kept ≡ kept_by o → cond here w.1 kept ≡ kept_by (cond here (Some w) o)
+unfolding kept_by
+first_of true w kept o e = refl
+first_of false w kept o e = e
 
-module _ (l : List Writable) (address k : ℕ) (less : k < length l) where
-  -- entry k has the address
-  found : (get_or l k none).0 ≡ address → (get_or l k none).1 ≡ kept_in (drop k l) address
-  found e = rw (drop-cons l k none less, kept_in_cons, eq-eqb _ _ e)
+first : (l : List Writable) (address : ℕ) → kept_in l address ≡ kept_by (find (λ w. eqb w.0 address) l)
+unfolding kept_in kept_by
+first [] address = refl
+first (w ∷ rest) address = first_of (eqb w.0 address) w (kept_in rest address) (find (λ v. eqb v.0 address) rest) (first rest address)
 
-  -- it has another
-  passed : ((get_or l k none).0 ≡ address → ⊥) → kept_in (drop k l) address ≡ kept_in (drop (k + 1) l) address
-  passed n = rw (add-one, drop-cons l k none less, kept_in_cons, ne_eqb _ _ n)
-
--- no entry is left
-through : (l : List Writable) (address k : ℕ) → length l ≤ k → 0 ≡ kept_in (drop k l) address
-unfolding kept_in
-through l address k h = rw (drop_of_length-le l h)
-
-pub returns-then-w-address : goal.returns-then-w-address
-unfolding writable
-returns-then-w-address c =
-    found writable c.args.address c.loop-k.k (omega arith) c.if-w-address.true ∙ sym c.loop-k.invariant.1
-
-pub loop-k-preserved : goal.loop-k-preserved
-unfolding writable
-loop-k-preserved c =
-    (omega arith, c.loop-k.invariant.1 ∙ passed writable c.args.address c.loop-k.k (omega arith) c.if-w-address.false)
+asked : (o : Option (Bor Writable)) (kept : ℕ) (At : Bor Writable → Type 0) → MatchOption o (kept ≡ 0) At
+    → ((w : Bor Writable) → At w → kept ≡ w.now.1) → kept ≡ kept_by (option_map (λ w. w.now) o)
+unfolding kept_by
+asked None kept At e by = e
+asked (Some w) kept At e by = by w e
 
 pub returns : goal.returns
 unfolding writable
 returns c =
-    through writable c.args.address c.loop-k.k (omega arith) ∙ sym c.loop-k.invariant.1
+    let address : ℕ = c.args.address in
+    let one : option_map (λ (w : Bor Writable). w.now) c.find.result ≡ find (λ w. eqb w.0 address) writable
+    = find_from_yields_List (λ (w : Writable). eqb w.0 address) _ _ c.find.result c.find.ensures.ran (YieldsList-from_slice writable cc) (λ x b q k. search (rules, tests)) in
+    asked c.find.result c.map_or.result _ c.map_or.ensures (λ w k. search rules) ∙ ap kept_by one ∙ sym (first writable address)

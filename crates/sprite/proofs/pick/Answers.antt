@@ -1,13 +1,13 @@
 -- `sprite::pick` meets its contract.
 use Prim.Native.Nat.{ℕ}
-use mathlib.Core.Path.{◌≡◌, sym, ◌∙◌}
+use mathlib.Core.Path.{◌≡◌, refl, sym}
 use mathlib.Core.Bool.{true}
 use mathlib.Core.List.{List}
 use lib.ListN.{length}
-use borrow.Author.Tests.{eq-eqb, ne_eqb, eqb-true}
-use Rattle.hardware.specs.Tables.{oam_bytes}
+use borrow.Author.Tests.{eqb-true}
+use Rattle.hardware.specs.Tables.{oam_bytes, oam_fits}
 use Rattle.refusals.proofs.Ladder.{lowest_none}
-use Rattle.hardware.specs.Tables.{oam_fits}
+use Rattle.refusals.proofs.Rungs.{handed, undone}
 use Rattle.sprite.specs.Pick.{pick_number, pick_of}
 use Rattle.sprite.proofs.pick.Goals as goal
 
@@ -16,20 +16,14 @@ whole : (oam : List ℕ) (line tall : ℕ) → pick_number oam line tall ≡ 0 �
 unfolding pick_number
 whole oam line tall e = eqb-true _ _ (lowest_none (oam_fits oam) true e).sized
 
-pub returns-then-number-ne0 : goal.returns-then-number-ne0
+pub returns-in_err-allow_pick : goal.returns-in_err-allow_pick
 unfolding pick_of
-returns-then-number-ne0 c =
-    let number = c.pick_number-number.ensures in
-    rw (c.refused.ensures, number, ne_eqb _ 0 (λ z. c.if-number-ne0.true (number ∙ z)))
+returns-in_err-allow_pick c =
+    rw (handed _ c.from_residual.ensures, ← c.in_err-allow_pick.ensures, undone) refl
 
-pub select-selection-requires : goal.select-selection-requires
-select-selection-requires c =
-    let number = c.pick_number-number.ensures in
-    whole _ _ _ (sym number ∙ c.if-number-ne0.false)
+pub select-requires : goal.select-requires
+select-requires c = whole _ _ _ (sym c.in_ok-allow_pick.ensures)
 
 pub returns : goal.returns
 unfolding pick_of
-returns c =
-    let left = c in
-    let number = left.pick_number-number.ensures in
-    rw (c.select-selection.ensures, c.blank-slots.ensures, number, eq-eqb _ 0 (sym number ∙ left.if-number-ne0.false))
+returns c = rw (c.select.ensures, c.blank.ensures, ← c.in_ok-allow_pick.ensures) refl

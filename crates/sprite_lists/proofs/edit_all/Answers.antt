@@ -1,9 +1,10 @@
 -- An edit more: OAM by the law that true sets refuse no write that OAM takes.
-use Rattle.std.proofs.Common.{◌≡◌, ℕ, ◌+◌, ◌*◌, ◌/◌, List, length, get_or, refl, sym, ◌∙◌, add-one, arith}
+use Rattle.std.proofs.Common.{◌≡◌, ℕ, ◌+◌, ◌*◌, ◌/◌, ◌<◌, List, [], length, get_or, refl, sym, ◌∙◌, ap, add-zero, add-one, arith}
 use Rattle.std.proofs.lemmas.Result.{IfOk-from_err}
 use Rattle.line_sets.specs.Calls.{oam_after}
 use Rattle.line_sets.proofs.Laws.{keeps_true, writes_as_before}
 use Rattle.sprite_lists.specs.Edits.{edited}
+use Rattle.sprite_lists.proofs.Chunks.{byte_of}
 use Rattle.sprite_lists.proofs.edit_all.Goals as goal
 
 -- OAM before any edit, and after one more
@@ -16,30 +17,33 @@ edited_next : (oam edits : List ℕ) (n : ℕ)
 unfolding edited
 edited_next oam edits n = rw (add-one n) refl
 
-next : (oam₀ edits : List ℕ) (n address : ℕ) (oam oam' : List ℕ) → oam ≡ edited oam₀ edits n → address ≡ get_or edits (2 * n) 0
-    → oam' ≡ oam_after oam address (get_or edits (2 * n + 1) 0) → oam' ≡ edited oam₀ edits (n + 1)
-next oam₀ edits n address oam oam' o a e = e ∙ rw (o, a) (sym (edited_next oam₀ edits n))
+next : (oam₀ edits : List ℕ) (n address value : ℕ) (oam oam' : List ℕ) → oam ≡ edited oam₀ edits n → address ≡ get_or edits (2 * n + 0) 0
+    → value ≡ get_or edits (2 * n + 1) 0 → oam' ≡ oam_after oam address value → oam' ≡ edited oam₀ edits (n + 1)
+next oam₀ edits n address value oam oam' o a v e = e ∙ rw (o, a, v, add-zero (2 * n)) (sym (edited_next oam₀ edits n))
 
 pub loop-edit-init : goal.loop-edit-init
-loop-edit-init g c =
-    record { in_range = omega arith; whole = refl; same = c.requires.2; edited_so = edited_none c.args.oam.now c.args.edits.now }
+loop-edit-init g c = record { same = c.requires.2; edited_so = edited_none c.args.oam.now c.args.edits.now }
 
 pub returns-in_err-print_refused : goal.returns-in_err-print_refused
 returns-in_err-print_refused g c = (
-  (keeps_true _ _ _ _ _ _ _ _ c.write_oam-number.ensures c.loop-edit.invariant.same).0,
+  (keeps_true _ _ _ _ _ _ _ _ c.write_oam.ensures c.loop-edit.invariant.same).0,
   IfOk-from_err _ _ c.from_residual.ensures.0,
 )
 
 pub loop-edit-preserved : goal.loop-edit-preserved
 loop-edit-preserved g c =
     let i = c.loop-edit.invariant in
-    let w = c.write_oam-number.ensures in
+    let w = c.write_oam.ensures in
+    let pairs = c.as_chunks.result.0.now in
+    let edits = c.args.edits.now in
+    let edit = c.loop-edit.edit in
+    let byte : (j : ℕ) → j < 2 → get_or (get_or pairs edit []) j 0 ≡ get_or edits (2 * edit + j) 0 =
+    λ j l. ap (λ (ps : List (List ℕ)). get_or (get_or ps edit []) j 0) c.as_chunks.ensures.front
+    ∙ byte_of 2 (length edits / 2) edits edit j (omega arith) l in
     record {
-      in_range = omega arith;
-      whole = omega arith;
       same = (keeps_true _ _ _ _ _ _ _ _ w i.same).0;
-      edited_so = next _ _ _ _ _ _ i.edited_so c.address_of-address.ensures
-          (writes_as_before _ _ _ _ _ _ _ _ w i.same (i.whole ∙ c.requires.0) c.requires.1);
+      edited_so = next _ _ _ _ _ _ _ i.edited_so (c.from-address.ensures ∙ byte 0 (omega arith)) (byte 1 (omega arith))
+          (writes_as_before _ _ _ _ _ _ _ _ w i.same (c.loop-edit.auto.oam ∙ c.requires.0) c.requires.1);
     }
 
 pub returns : goal.returns

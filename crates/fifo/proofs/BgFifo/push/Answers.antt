@@ -18,15 +18,16 @@ use Rattle.fifo.proofs.BgFifo.push.Goals as goal
 
 -- the slots while a row is pushed: after k pixels, and after all
 module _ (q : BgFifo) (palette : ColorPalette) (priority : Bool) (colours : List ℕ) (eight : length colours ≡ 8) where
-  pushing_more : {pixels : List BgFifoPixel} (k : ℕ) → k < 8
+  pushing_more : {pixels : List BgFifoPixel} {head at : ℕ} (k : ℕ) → k < 8 → head ≡ q.head → at ≡ (head + (q.len + k)) % 16
       → pixels ≡ laid 16 q.pixels (q.head + q.len) (take k (bg_row palette priority colours))
-      → set pixels ((q.head + q.len + k) % 16) (bg_inked palette priority (get_or colours k 0))
+      → set pixels at (bg_inked palette priority (get_or colours k 0))
       ≡ laid 16 q.pixels (q.head + q.len) (take (k + 1) (bg_row palette priority colours))
-  pushing_more k h e =
+  pushing_more k h front slot e =
       let row = bg_row palette priority colours in
       let in_row : k < length row = rw (bg_row_length palette priority colours, eight) h in
+      let place : q.head + (q.len + k) ≡ q.head + q.len + k = omega arith in
       let at-k = map_at (bg_inked palette priority) colours k 0 bg_blank (rw eight h) in
-      rw (e, ← at-k) (laid_more 16 bg_blank q.pixels (q.head + q.len) row k in_row)
+      rw (slot, front, place, e, ← at-k) (laid_more 16 bg_blank q.pixels (q.head + q.len) row k in_row)
 
   pushing_all : {pixels : List BgFifoPixel} (k : ℕ) → k ≡ 8
       → pixels ≡ laid 16 q.pixels (q.head + q.len) (take k (bg_row palette priority colours))
@@ -38,8 +39,14 @@ module _ (q : BgFifo) (palette : ColorPalette) (priority : Bool) (colours : List
 
 pub loop-k-init : goal.loop-k-init
 unfolding laid
-loop-k-init c = (omega arith, refl)
+loop-k-init c = record { head = refl; len = refl; pixels = refl }
 
 pub loop-k-preserved : goal.loop-k-preserved
 loop-k-preserved c =
-    (omega arith, pushing_more c.args.self c.args.palette c.args.priority c.args.colors (omega (arith, c.well_formed)) c.loop-k.k (omega arith) c.loop-k.invariant.1)
+    let a = c.args in
+    let v = c.loop-k.invariant in
+    record {
+      head = v.head;
+      len = v.len;
+      pixels = pushing_more a.self a.palette a.priority a.colors (omega (arith, c.well_formed)) c.loop-k.k (omega (arith, c.well_formed)) v.head c.slot.ensures v.pixels;
+    }

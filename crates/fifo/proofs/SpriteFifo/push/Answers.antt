@@ -13,7 +13,7 @@ use Rattle.fifo.specs.Sprites.{sprite_blank, sprite_queued, inked, inked_row, ov
 use Rattle.logic.proofs.Mapped.{map_at}
 use Rattle.fifo.proofs.Ring.{live_at, laid_more, laid_past}
 use Rattle.fifo.proofs.Sprites.{sprite_length, inked_row_length, mix_length}
-use Rattle.fifo.proofs.SpriteFifo.push.Goals.{then-k-len, else-k-len}
+use Rattle.fifo.proofs.SpriteFifo.push.Goals.{then-k-self, else-k-self}
 use Rattle.fifo.proofs.SpriteFifo.push.Goals as goal
 
 -- the mix: pixel by pixel the older or the newer, and the row's own past the older ones
@@ -57,35 +57,44 @@ module _ (coord : Bool) (q : SpriteFifo) (ink : SpriteFifoPixel) (colours : List
       merged_new coord (sprite_queued q) (inked_row ink colours) k sprite_blank (rw (sprite_length q) h) (rw (inked_row_length ink colours, eight) l)
       ∙ map_at (inked ink) colours k 0 sprite_blank (rw eight l)
 
-  module _ {pixels : List SpriteFifoPixel} {new : SpriteFifoPixel} (k : ℕ) (less : k < 8)
-      (w : pixels ≡ laid 8 q.pixels q.head (take k mix)) (colour : new ≡ inked ink (get_or colours k 0)) where
-    mixing_over : {kept : SpriteFifoPixel} → k < q.len → kept ≡ over coord (get_or pixels ((q.head + k) % 8) sprite_blank) new
-        → set pixels ((q.head + k) % 8) kept ≡ laid 8 q.pixels q.head (take (k + 1) mix)
+  module _ {pixels : List SpriteFifoPixel} {new : SpriteFifoPixel} {head at : ℕ} (k : ℕ) (less : k < 8) (front : head ≡ q.head)
+      (slot : at ≡ (head + k) % 8) (w : pixels ≡ laid 8 q.pixels q.head (take k mix)) (colour : new ≡ inked ink (get_or colours k 0)) where
+    mixing_over : {kept : SpriteFifoPixel} → k < q.len → kept ≡ over coord (get_or pixels at sprite_blank) new
+        → set pixels at kept ≡ laid 8 q.pixels q.head (take (k + 1) mix)
     mixing_over h e =
-        rw (e, w, colour, ← mix_over k h) (laid_more 8 sprite_blank q.pixels q.head mix k (rw mix_eight less))
+        rw (e, slot, front, w, colour, ← mix_over k h) (laid_more 8 sprite_blank q.pixels q.head mix k (rw mix_eight less))
 
-    mixing_new : q.len ≤ k → set pixels ((q.head + k) % 8) new ≡ laid 8 q.pixels q.head (take (k + 1) mix)
+    mixing_new : q.len ≤ k → set pixels at new ≡ laid 8 q.pixels q.head (take (k + 1) mix)
     mixing_new h =
-        rw (w, colour, ← mix_new k h less) (laid_more 8 sprite_blank q.pixels q.head mix k (rw mix_eight less))
+        rw (slot, front, w, colour, ← mix_new k h less) (laid_more 8 sprite_blank q.pixels q.head mix k (rw mix_eight less))
 
-  mixing_all : {pixels : List SpriteFifoPixel} (k : ℕ) → k ≡ 8 → pixels ≡ laid 8 q.pixels q.head (take k mix)
-      → ◌≡◌ {A = SpriteFifo} (record { pixels = pixels; head = q.head; len = 8 }) (sprite_pushed coord q (inked_row ink colours))
-  mixing_all k e w = rw (w, take_all k mix (rw (mix_eight, e) (omega arith)))
+  mixing_all : {pixels : List SpriteFifoPixel} {head : ℕ} (k : ℕ) → k ≡ 8 → head ≡ q.head → pixels ≡ laid 8 q.pixels q.head (take k mix)
+      → ◌≡◌ {A = SpriteFifo} (record { pixels = pixels; head = head; len = 8 }) (sprite_pushed coord q (inked_row ink colours))
+  mixing_all k e front w = rw (front, w, take_all k mix (rw (mix_eight, e) (omega arith)))
 
 pub loop-k-init : goal.loop-k-init
 unfolding laid
-loop-k-init c = (omega arith, refl)
+loop-k-init c = record { head = refl; len = refl; pixels = refl }
 
 pub loop-k-preserved : goal.loop-k-preserved
 loop-k-preserved c =
-    let eight : length c.args.colors ≡ 8 = omega (arith, c.well_formed) in
-    elim c.if-k-len.branch [
-      | then-k-len w ↦
-          (omega arith, rw w.pixels-is (mixing_over c.args.coord c.args.self c.args.ink c.args.colors eight c.requires c.loop-k.k (omega arith) c.loop-k.invariant.1 c.inked-new.ensures w.if-k-len.true w.over.ensures))
-      | else-k-len w ↦
-          (omega arith, rw w.pixels-is (mixing_new c.args.coord c.args.self c.args.ink c.args.colors eight c.requires c.loop-k.k (omega arith) c.loop-k.invariant.1 c.inked-new.ensures w.if-k-len.false))
+    let a = c.args in
+    let l = c.loop-k in
+    let v = l.invariant in
+    let eight : length a.colors ≡ 8 = omega (arith, c.well_formed) in
+    let less : l.k < 8 = omega (arith, c.well_formed) in
+    let laid_law : set l.self.pixels c.slot-at.result c.if-k-self.self
+    ≡ laid 8 a.self.pixels a.self.head (take (l.k + 1) (merged a.coord (sprite_queued a.self) (inked_row a.ink a.colors))) =
+    elim c.if-k-self.branch [
+      | then-k-self w ↦
+          rw w.self-is (mixing_over a.coord a.self a.ink a.colors eight c.requires l.k less v.head c.slot-at.ensures v.pixels c.inked-new.ensures (rw v.len at w.if-k-self.true) w.over.ensures)
+      | else-k-self w ↦
+          rw w.self-is (mixing_new a.coord a.self a.ink a.colors eight c.requires l.k less v.head c.slot-at.ensures v.pixels c.inked-new.ensures (rw v.len at w.if-k-self.false))
     ]
+    in
+    record { head = v.head; len = v.len; pixels = laid_law }
 
 pub returns : goal.returns
 returns c =
-    mixing_all c.args.coord c.args.self c.args.ink c.args.colors (omega (arith, c.well_formed)) c.requires c.loop-k.k (omega arith) c.loop-k.invariant.1
+    let a = c.args in
+    mixing_all a.coord a.self a.ink a.colors (omega (arith, c.well_formed)) c.requires c.loop-k.k (omega (arith, c.well_formed)) c.loop-k.invariant.head c.loop-k.invariant.pixels

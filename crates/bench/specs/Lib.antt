@@ -1,0 +1,2 @@
+-- What the contracts of `bench` cite: what is counted.
+pub mod Counts

@@ -1,0 +1,2 @@
+-- What the contracts of `wire` cite.
+pub mod Fnv
