@@ -5,9 +5,9 @@ Each module sees the others. With --std a module of that name, which is no crate
 `prelude` has.
 Dropped is what is for the proof alone: the `ghost use` lines, the clauses of the contracts, ghost fields and members, the `impl Model`
 blocks, and the attributes that steer the check; all else stays as it is. Every struct and enum gets the derives that a comparison needs
-beside its own, `std::num::wrapping_sub_u8` becomes `u8::wrapping_sub`, `fmt` of a `Display` goes to a `Formatter`, a `let .. else` is written out as the `match` that it stands for,
-since Debian 12's rustc (1.63) has no such form, and a crate's `use` lines and a program's `main` are made public, so that a name is
-found in every module that knows it."""
+beside its own, `fmt` of a `Display` goes to a `Formatter`, a `let .. else` is
+written out as the `match` that it stands for and an `as_mut_array` as the `try_from`, since Debian 12's rustc (1.63) has neither, and
+a crate's `use` lines and a program's `main` are made public, so that a name is found in every module that knows it."""
 import argparse
 import re
 import sys
@@ -22,8 +22,8 @@ TYPE = re.compile(r"^((?:[ \t]*#\[[^\n]*\]\n)*)((?:pub )?(?:struct|enum) (?:.*;$
 OWN_DERIVES = re.compile(r"^[ \t]*#\[derive\(([^\n]*)\)\]\n", re.M)
 USE = re.compile(r"^(?=use |fn main\()", re.M)
 MOD = re.compile(r"^mod (\w+);$", re.M)
-STD_NUM = re.compile(r"\bstd::num::(\w+)_([ui](?:8|16|32|64|128|size))\b")
-LET_ELSE = re.compile(r"\blet ((?:\w+::)?\w+)\(([\w, ]*)\) = ([^;{}]+) else (\{[^{}]*\});")
+LET_ELSE = re.compile(r"\blet ((?:\w+::)?\w+)\(([\w, ]*)\) = ((?:\[[^\[\]]*\]|[^;{}])+) else (\{[^{}]*\});")
+AS_MUT_ARRAY = re.compile(r"\b(\w+)\.as_mut_array::<(?:\{ )?([\w:]+)(?: \})?>\(\)")
 # A value's text goes to any writer here, to a `Formatter` there.
 FMT = re.compile(r"\bfn fmt<W: fmt::Write>\(&self, f: &mut fmt::Formatter<W>\)")
 # Comments, texts and characters, in which a brace is none.
@@ -61,8 +61,9 @@ def stripped(name, path, others):
     """A file of a crate, with the files of its own `mod` lines in their place."""
     text = STEERS.sub("", GHOST_USE.sub("", path.read_text(encoding="utf-8")))
     text = without(CLAUSE, without(MODEL, text, name), name)
-    text = STD_NUM.sub(r"\2::\1", USE.sub("pub ", TYPE.sub(derived, text)))
+    text = USE.sub("pub ", TYPE.sub(derived, text))
     text = FMT.sub("fn fmt(&self, f: &mut fmt::Formatter<'_>)", text)
+    text = AS_MUT_ARRAY.sub(r"<&mut [_; \2]>::try_from(\1).ok()", text)
     text = LET_ELSE.sub(r"let (\2) = match \3 { \1(\2) => (\2), _ => \4 };", text)
     code = NO_CODE.sub("", text)
     if re.search(r"\blet\b[^;{}]*\belse\b", code):

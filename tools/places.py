@@ -1,7 +1,7 @@
 #!/usr/bin/env python3
 """Counts the places of docs/DESIGN-PASS.md in crates/*/src: python3 tools/places.py [POINT] [-l]
 
-POINT is a row of that page (1a to 7b), all of them without one; -l lists the places too. It goes by the text: a place that it counts is one to look
+POINT is a row of that page (1a to 7), all of them without one; -l lists the places too. It goes by the text: a place that it counts is one to look
 at, and what stays has its reason beside it or in the page."""
 import re
 import sys
@@ -17,15 +17,22 @@ def at(path, position):
     return f"{path}:{TEXT[path].count(chr(10), 0, position) + 1}"
 
 
-def lines(pattern, files=FILES):
+def lines(pattern, texts=TEXT):
     """The lines in which a pattern stands, comments aside."""
     found = []
-    for path in files:
-        for number, line in enumerate(TEXT[path].split("\n"), 1):
+    for path, text in texts.items():
+        for number, line in enumerate(text.split("\n"), 1):
             code = line.split("//")[0]
             if re.search(pattern, code) and "ghost use" not in code:
                 found.append(f"{path}:{number} {code.strip()}")
     return found
+
+
+def widened():
+    """Lines with an `as` that makes a u16, u32 or u64, where `From` serves if it widens: the text does not tell it from one that narrows. Left out are
+    the constants, in which no `From` can stand."""
+    constant = re.compile(r"^ *(?:pub )?const \w+:(?:.|\n)*?;$", re.M)
+    return lines(r"\bas (?:u16|u32|u64)\b", {path: constant.sub(lambda found: "\n" * found[0].count("\n"), TEXT[path]) for path in FILES})
 
 
 def functions():
@@ -147,6 +154,7 @@ POINTS = {
     "3b": ("`for` over a range", ranges),
     "4a": ("words and bytes put together or taken apart by hand", lambda: lines(r"% (?:256|0x100)\) as u8|as (?:u16|u32) \* (?:256|0x100)|/ (?:256|0x1_?0+)\b")),
     "4b": ("conversions, equality and tests of a case by hand", lambda: lines(r"^\s*(?:pub )?fn (?:number|from_raw|to_raw|new|same|is_done|is_start|goes_on|more|one_more|next_line|least|at_most_eight|is_optional)\b|if let .* = .* \{$|\{ true \} else \{ false \}")),
+    "4c": ("`as` that makes a u16, u32 or u64, where `From` serves if it widens", widened),
     "5a": ("facts that stand in the `requires` of three functions or more", repeated_facts),
     "5b": ("functions with three or more parameters that stand together in three functions or more", travelling),
     "6": ("buffers with a place or a length beside them", buffers),

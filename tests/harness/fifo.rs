@@ -26,7 +26,7 @@ pub fn sprites(bench: &mut Bench) -> Result<(), String> {
                 .compare_after(
                     &s,
                     |g| g.ppu.part_obj().clear(),
-                    |s, _| s.pipe.obj = s.pipe.obj.clear(),
+                    |s, _| s.pipe.obj.clear(),
                 )
                 .map_err(|found| format!("  clear\n{}", found))?
         } else if op < 15 {
@@ -52,7 +52,7 @@ pub fn sprites(bench: &mut Bench) -> Result<(), String> {
                 .compare_after(
                     &s,
                     |g| g.ppu.part_obj().push(colors, &selected, palette),
-                    |s, _| s.pipe.obj = s.pipe.obj.push(colors, ink, s.regs.coord),
+                    |s, _| s.pipe.obj.push(colors, ink, s.regs.coord),
                 )
                 .map_err(|found| format!("  push of {:?} in {:?}\n{}", colors, ink, found))?
         } else {
@@ -60,11 +60,7 @@ pub fn sprites(bench: &mut Bench) -> Result<(), String> {
                 .compare_after(
                     &s,
                     |g| g.ppu.part_obj().pop().map(|pixel| pixel.part()),
-                    |s, _| {
-                        let popped = s.pipe.obj.pop();
-                        s.pipe.obj = popped.fifo;
-                        popped.answer
-                    },
+                    |s, _| s.pipe.obj.pop(),
                 )
                 .map_err(|found| format!("  pop\n{}", found))?
         };
@@ -84,7 +80,7 @@ pub fn background(bench: &mut Bench) -> Result<(), String> {
                 .compare_after(
                     &s,
                     |g| g.ppu.part_bg().clear(),
-                    |s, _| s.pipe.bg = s.pipe.bg.clear(),
+                    |s, _| s.pipe.bg.clear(),
                 )
                 .map_err(|found| format!("  clear\n{}", found))?
         } else if s.pipe.bg.len == 0 || s.pipe.bg.len <= 8 && bench.random.once_in(4) {
@@ -95,7 +91,7 @@ pub fn background(bench: &mut Bench) -> Result<(), String> {
                 .compare_after(
                     &s,
                     |g| g.ppu.part_bg().push(colors, palette, tile.priority),
-                    |s, _| s.pipe.bg = s.pipe.bg.push(colors, tile.palette, tile.priority),
+                    |s, _| s.pipe.bg.push(colors, tile.palette, tile.priority),
                 )
                 .map_err(|found| format!("  push of {:?} with {:?}\n{}", colors, tile, found))?
         } else {
@@ -103,11 +99,7 @@ pub fn background(bench: &mut Bench) -> Result<(), String> {
                 .compare_after(
                     &s,
                     |g| g.ppu.part_bg().pop().part(),
-                    |s, _| {
-                        let popped = s.pipe.bg.pop();
-                        s.pipe.bg = popped.fifo;
-                        popped.pixel
-                    },
+                    |s, _| s.pipe.bg.take_front(),
                 )
                 .map_err(|found| format!("  pop\n{}", found))?
         };

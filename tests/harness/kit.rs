@@ -1,7 +1,7 @@
 //! A stand-in for the kit's std, as far as the program `bench` calls it, so that its text runs as rustc compiles it. A module of the program
 //! that tests/native makes of what tests/strip.py writes: there `std::` is this module, and its prelude is seen everywhere.
 
-pub use std::str;
+pub use std::{array, str};
 
 pub mod prelude {
     pub use super::io::{Eprint, Print};

@@ -17,11 +17,8 @@ pub fn mixer(bench: &mut Bench) -> Result<(), String> {
             &s,
             |g| g.ppu.part_next_color(),
             |s, _| {
-                let bg = s.pipe.bg.pop();
-                let obj = s.pipe.obj.pop();
-                s.pipe.bg = bg.fifo;
-                s.pipe.obj = obj.fifo;
-                let color = pixel::mixer(s.regs, bg.pixel, obj.answer);
+                let bg = s.pipe.bg.take_front();
+                let color = pixel::mixer(s.regs, bg, s.pipe.obj.pop());
                 [color.r, color.g, color.b]
             },
         )?;

@@ -1,9 +1,11 @@
 // The beam goes on: the cycle, the line, the frame, and what a swap answers.
+// The bounds of the cycle, the line and the picture shown stand in clauses and in no type: docs/PROMISES.md and docs/EDITS.md name these functions, and a
+// type would ask more of who calls them. Of a whole state `Fine` (`order`) holds them, of the arguments of a step `Steppable` (`step`).
 #![tactic(auto)]
 
 ghost use Rattle.std.specs.Prelude.{◌≡◌, ◌<◌, ◌≤◌, ◌+◌};
 ghost use Rattle.hardware.specs.Screen.{line_cycles, frame_lines};
-ghost use Rattle.beam.specs.Advance.{swaps, onward, next_line, next_frame, advanced_beam, advanced_registers, whole};
+ghost use Rattle.beam.specs.Advance.{ends, swaps, onward, next_line, next_frame, advanced_beam, advanced_registers, whole};
 ghost use Rattle.beam.specs.Marks.{mark_number, mark_of};
 
 use hardware::Machine;
@@ -35,11 +37,11 @@ fn onward_by(b: Beam, cycles: u8) -> Beam
     requires { b.cycle + cycles ≤ line_cycles }
     ensures { result ≡ onward cycles b }
 {
-    let cycle = b.cycle + cycles as u16;
-    let mut n = b;
-    n.cycle = cycle;
-    n.turned = false;
-    n
+    Beam {
+        cycle: b.cycle + u16::from(cycles),
+        turned: false,
+        ..b
+    }
 }
 
 // The beam on the next line.
@@ -47,12 +49,12 @@ fn next_line(b: Beam) -> Beam
     requires { b.line < frame_lines }
     ensures { result ≡ next_line b }
 {
-    let line = b.line + 1;
-    let mut n = b;
-    n.line = line;
-    n.cycle = 0;
-    n.turned = false;
-    n
+    Beam {
+        line: b.line + 1,
+        cycle: 0,
+        turned: false,
+        ..b
+    }
 }
 
 // After line 153: the pictures swap, no place is stored yet, and no blanking has come since.
@@ -60,16 +62,24 @@ fn next_frame(b: Beam) -> Beam
     requires { b.shown ≤ 1 }
     ensures { result ≡ next_frame b }
 {
-    let shown = lcd::next_buffer_index(b.shown);
-    let mut n = b;
-    n.line = 0;
-    n.cycle = 0;
-    n.x = 0;
-    n.shown = shown;
-    n.count = 0;
-    n.turned = false;
-    n.blanked = false;
-    n
+    Beam {
+        line: 0,
+        cycle: 0,
+        x: 0,
+        shown: lcd::next_buffer_index(b.shown),
+        count: 0,
+        turned: false,
+        blanked: false,
+        ..b
+    }
+}
+
+// Whether a step ends the line.
+fn ends_line(b: Beam, cycles: u8) -> bool
+    requires { b.cycle + cycles ≤ line_cycles }
+    ensures { result ≡ ends cycles b }
+{
+    b.cycle + u16::from(cycles) == Machine::LINE_CYCLES
 }
 
 // Whether a step ends the frame.
@@ -77,7 +87,7 @@ pub fn does_swap(b: Beam, cycles: u8) -> bool
     requires { (b.cycle + cycles ≤ line_cycles) × (b.line < frame_lines) }
     ensures { result ≡ swaps cycles b }
 {
-    b.cycle + cycles as u16 == Machine::LINE_CYCLES && b.line + 1 == Machine::FRAME_LINES
+    ends_line(b, cycles) && b.line + 1 == Machine::FRAME_LINES
 }
 
 // Whether the picture that a step ends is whole.
@@ -86,7 +96,7 @@ pub fn is_whole(b: Beam, cycles: u8) -> bool
     requires { (b.cycle + cycles ≤ line_cycles) × (b.line < frame_lines) }
     ensures { result ≡ whole cycles b }
 {
-    does_swap(b, cycles) && b.count as usize == Machine::PLACES
+    does_swap(b, cycles) && usize::from(b.count) == Machine::PLACES
 }
 
 // The mark of the picture that a step ends; no where it ends none.
@@ -110,7 +120,7 @@ pub fn advance(b: Beam, cycles: u8) -> Beam
     requires { (b.cycle + cycles ≤ line_cycles) × (b.line < frame_lines) × (b.shown ≤ 1) }
     ensures { result ≡ advanced_beam cycles b }
 {
-    if b.cycle + cycles as u16 != Machine::LINE_CYCLES {
+    if !ends_line(b, cycles) {
         return onward_by(b, cycles);
     }
     if b.line + 1 == Machine::FRAME_LINES {
@@ -124,11 +134,11 @@ pub fn advance_registers(r: Registers, b: Beam, cycles: u8) -> Registers
     requires { (b.cycle + cycles ≤ line_cycles) × (b.line < frame_lines) × (b.shown ≤ 1) }
     ensures { result ≡ advanced_registers cycles r b }
 {
-    if b.cycle + cycles as u16 != Machine::LINE_CYCLES {
+    if !ends_line(b, cycles) {
         return r;
     }
-    let next = advance(b, cycles);
-    let mut n = r;
-    n.ly = next.line;
-    n
+    Registers {
+        ly: advance(b, cycles).line,
+        ..r
+    }
 }

@@ -3,13 +3,12 @@ ghost use Rattle.std.specs.Prelude.{◌<◌, ◌≤◌};
 
 use crate::shelf::Shelf;
 use crate::tally::{Requests, Tally};
-use crate::trouble::{Failed, Trouble};
+use crate::trouble::Trouble;
 use crate::unit::Unit;
 use crate::{page, say, text_of};
 use captures::Call;
 use filing::Label;
 use hardware::Machine;
-use std::io;
 use std::io::Write;
 use std::rt::Files;
 use step::Report;
@@ -91,15 +90,20 @@ impl<'a, W: Write> Desk<'a, W> {
         requires { 0 < times }
         ensures { (0 < result.taken) × (result.taken ≤ times) }
     {
+        // By number, which is how many steps were taken before.
         for before in 0..times {
             let swap = self.step_once(cycles);
             if !matches!(swap, Ok(None)) {
-                let taken = before + 1;
-                return Drawn { taken, swap };
+                return Drawn {
+                    taken: before + 1,
+                    swap,
+                };
             }
         }
-        let swap = Ok(None);
-        Drawn { taken: times, swap }
+        Drawn {
+            taken: times,
+            swap: Ok(None),
+        }
     }
 
     // A step, and its report where it swaps.
@@ -140,13 +144,17 @@ impl<'a, W: Write> Desk<'a, W> {
     fn tell(&mut self, rt: &(impl Print + Eprint), label: Label) -> Result<(), Trouble> {
         let name = filing::name_of(label.number, label.mark);
         let name = text_of(name.as_bytes());
-        say::picture(rt, label, self.seen, name).map_err(|why| untold(rt, "standard output", why))?;
-        page::picture(&mut self.page, label, name).map_err(|why| untold(rt, "index.html", why))
+        say::picture(rt, label, self.seen, name).map_err(|why| say::for_trouble(
+            rt,
+            "standard output",
+            why,
+            Trouble::NotTold,
+        ))?;
+        page::picture(&mut self.page, label, name).map_err(|why| say::for_trouble(
+            rt,
+            "index.html",
+            why,
+            Trouble::NotTold,
+        ))
     }
-}
-
-// Says why a picture could not be told of.
-fn untold(rt: &impl Eprint, what: &str, why: io::Error) -> Trouble {
-    say::failed(rt, Failed { what, why });
-    Trouble::NotTold
 }

@@ -78,8 +78,7 @@ fn take_chunk<W: Write>(
     Ok(())
 }
 
-// Draws a capture, whose last line may lack a line's end. Nothing says that a file ends, so the reads are counted up to a number that
-// no run comes to.
+// Draws a capture, whose last line may lack a line's end.
 pub fn run<W: Write>(
     rt: &(impl Files + Print + Eprint),
     desk: &mut Desk<'_, W>,
@@ -87,6 +86,8 @@ pub fn run<W: Write>(
 ) -> Result<(), Stop> {
     let mut line = Line::new();
     let mut chunk = [0u8; 65536];
+    // Nothing says that a file ends, and a loop without an end needs a handle: so the reads are counted, up to a number that no run comes
+    // to.
     for _ in 0..u64::MAX {
         let n = source.read(&mut chunk).map_err(Stop::Unread)?;
         if n == 0 {

@@ -1,8 +1,10 @@
 // What the bench says: a line a picture on standard output; how far it is, and what is wrong, on standard error. Where standard error
 // cannot be written either, nothing is left to do.
+ghost use Rattle.std.specs.Prelude.{◌≡◌};
+
 use crate::page;
 use crate::tally::{Requests, Tally};
-use crate::trouble::{Failed, Stop};
+use crate::trouble::{Failed, Stop, Trouble};
 use filing::Label;
 use std::io;
 use std::io::Write;
@@ -35,13 +37,18 @@ pub fn failed(rt: &impl Eprint, failed: Failed) {
     let _ = eprintln!(rt; "{failed}");
 }
 
+// Says what could not be read or written, and answers the trouble that comes of it.
+pub fn for_trouble(rt: &impl Eprint, what: &str, why: io::Error, trouble: Trouble) -> Trouble
+    ensures { result ≡ trouble }
+{
+    failed(rt, Failed { what, why });
+    trouble
+}
+
 // What stopped a capture, and where.
 pub fn stopped(rt: &impl Eprint, capture: &str, line: u64, stop: Stop) {
     match stop {
-        Stop::Unread(why) => {
-            let what = capture;
-            failed(rt, Failed { what, why });
-        }
+        Stop::Unread(why) => failed(rt, Failed { what: capture, why }),
         stop => {
             let _ = eprintln!(rt; "bench: {capture}:{line}: {stop}");
         }

@@ -1,5 +1,5 @@
 // The folder that pictures are filed in: paths, and a picture's file. A file appears under its name only when all of it is written.
-use crate::trouble::{Failed, Trouble};
+use crate::trouble::Trouble;
 use crate::{say, text_of};
 use filing::Label;
 use std::fmt::InlineText;
@@ -37,12 +37,6 @@ fn fill(file: &mut (impl Write + OpenFile), bytes: &[u8]) -> io::Result<()> {
     file.sync_all()
 }
 
-// Says why a picture could not be filed.
-fn unfiled(rt: &impl Eprint, what: &str, why: io::Error) -> Trouble {
-    say::failed(rt, Failed { what, why });
-    Trouble::NotFiled
-}
-
 // Writes a new file: under another name first, so that no part of it is ever seen under its own. Where it cannot, says why, and then takes
 // away what there is of it.
 fn write_file(
@@ -53,23 +47,28 @@ fn write_file(
 ) -> Result<(), Trouble> {
     if is_taken(rt, path) {
         let why = io::Error::new(io::ErrorKind::AlreadyExists, "there is a file of that name");
-        return Err(unfiled(rt, path, why));
+        return Err(say::for_trouble(rt, path, why, Trouble::NotFiled));
     }
     let filled = {
-        let mut file = File::create_new(rt, part).map_err(|why| unfiled(rt, part, why))?;
+        let mut file = File::create_new(rt, part).map_err(|why| say::for_trouble(
+            rt,
+            part,
+            why,
+            Trouble::NotFiled,
+        ))?;
         fill(&mut file, bytes)
     };
     filled
         .and_then(|()| fs::rename(rt, part, path))
         .map_err(|why| {
-            let trouble = unfiled(rt, path, why);
+            let trouble = say::for_trouble(rt, path, why, Trouble::NotFiled);
             let _ = fs::remove_file(rt, part);
             trouble
         })
 }
 
 impl Shelf<'_> {
-    // Files a picture with what is known of it; where it cannot, says why.
+    // Files a picture with what is known of it; where it cannot, says why (a picture of the screen's length always has a file).
     pub fn file(
         &self,
         rt: &(impl Files + Eprint),

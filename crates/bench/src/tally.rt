@@ -46,7 +46,7 @@ pub struct Requests {
 }
 
 impl Requests {
-    // A step's requests more: 1 VBlank, 2 STAT.
+    // A step's requests more, which a report has as bits (docs/01-scope.md): 1 VBlank, 2 STAT.
     pub fn see(&mut self, requests: u8)
         ensures { self.new ≡ seen requests self.old }
     {

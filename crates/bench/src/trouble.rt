@@ -69,7 +69,7 @@ impl fmt::Display for Stop {
     }
 }
 
-// What is wrong with a line that is no call.
+// What is wrong with a line that is no call. A function, since `Reason` is another crate's, and the words are the bench's own.
 fn words_of(reason: Reason) -> &'static str {
     match reason {
         Reason::Unknown => "no call of that name: start, write, vram, oam, step, corrupt, colour",

@@ -67,6 +67,7 @@ impl Unit {
     {
         let all = bytes.bytes.to_be_bytes();
         let count = usize::from(bytes.count).min(8);
+        // The range says how often; the address is counted by hand, since behind the last comes the first, which no range has.
         let mut at = bytes.address;
         for _ in 0..bytes.times {
             for byte in &all[8 - count..] {
@@ -89,6 +90,7 @@ impl Unit {
         )?)
     }
 
+    // A kind by its number, as a `captures::Call` has it.
     pub fn corrupt(&mut self, kind: u8) -> Result<(), Trouble> {
         let state = self.state.as_ref().ok_or(Trouble::NotStarted)?;
         Ok(ppu::oam_bug(state, &mut self.oam, kind)?)

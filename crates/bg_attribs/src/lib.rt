@@ -1,4 +1,4 @@
-// The attribute byte of a background tile.
+// The attribute byte of a background tile. A sprite's flags have most of the same bits; docs/PROMISES.md names the functions of both, a line each.
 #![tactic(auto)]
 
 ghost use Rattle.std.specs.Prelude.{◌≡◌};

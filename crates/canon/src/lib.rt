@@ -2,8 +2,8 @@
 #![tactic(auto)]
 
 use colors::{ColorPalette, PaletteSet};
-use fifo::{BgFifoPixel, SpriteFifoPixel};
-use sprite::{SelectedSprite, Selection};
+use fifo::{BgFifoPixel, Fifo, SpriteFifoPixel};
+use sprite::Selection;
 use state::{Beam, Fetcher, Pipe, Registers, State};
 use wire::Digest;
 
@@ -68,39 +68,28 @@ impl Queued for SpriteFifoPixel {
     }
 }
 
-// A queue, front to back: so many pixels of a ring, from its slot `head` on.
-fn queue<P: Queued, const N: usize>(digest: Digest, ring: &[P; N], head: u8, len: u8) -> Digest {
-    ring.iter()
+// A queue, front to back: so many pixels of its ring, from its slot `head` on.
+fn queue<P: Queued, const N: usize>(digest: Digest, q: &Fifo<P, N>) -> Digest {
+    q.pixels
+        .iter()
         .cycle()
-        .skip(usize::from(head))
-        .take(usize::from(len))
-        .fold(digest.byte(len), |digest, pixel| pixel.taken_in(digest))
+        .skip(usize::from(q.head))
+        .take(usize::from(q.len))
+        .fold(digest.byte(q.len), |digest, pixel| pixel.taken_in(digest))
 }
 
 // The pipe: the window, the discard, the fetcher and both queues.
 fn pipe(digest: Digest, p: &Pipe) -> Digest {
     let begun = digest.flag(p.window).byte(p.wrow).byte(p.discard);
     let fetched = fetcher(begun, &p.fetcher);
-    let queued = queue(fetched, &p.bg.pixels, p.bg.head, p.bg.len);
-    queue(queued, &p.obj.pixels, p.obj.head, p.obj.len)
-}
-
-// The five bytes of a selected sprite.
-pub fn five(s: &SelectedSprite) -> [u8; 5] {
-    [
-        s.index,
-        s.sprite.y,
-        s.sprite.x,
-        s.sprite.tile,
-        s.sprite.flags,
-    ]
+    queue(queue(fetched, &p.bg), &p.obj)
 }
 
 // The selected sprites, as many as the count says.
 fn selection(digest: Digest, s: &Selection) -> Digest {
-    s.slots.iter().take(usize::from(s.count)).fold(
+    s.entries().iter().fold(
         digest.byte(s.count),
-        |digest, slot| digest.bytes(&five(slot)),
+        |digest, slot| digest.bytes(&slot.to_bytes()),
     )
 }
 

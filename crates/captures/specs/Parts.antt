@@ -1,10 +1,12 @@
 -- What the parts of the reader promise: what is taken from the words, and what is left of them.
-use Rattle.std.specs.Prelude.{◌≡◌, List, ℕ, ◌≤◌, ◌<◌, Result, Ok, Err}
+use Rattle.std.specs.Prelude.{◌≡◌, Bool, cond, List, ℕ, ◌≤◌, ◌<◌, Result, Ok, Err}
 use Rattle.captures.specs.declared.Wanted.{Wanted}
 use Rattle.captures.specs.declared.Wanted.TheVariants as wanted
 use Rattle.captures.specs.declared.Argument.{Argument}
 use Rattle.captures.specs.declared.Reason.{Reason}
-use Rattle.captures.specs.Reading.{Then}
+use Rattle.captures.specs.declared.Bytes.{Bytes}
+use Rattle.captures.specs.declared.Call.TheVariants.{Vram, Oam}
+use Rattle.captures.specs.Reading.{Then, whole, read_bytes}
 use Rattle.captures.specs.Reading.{argument as argumentOf}
 
 -- numbers below this are all that an argument can mean
@@ -29,3 +31,8 @@ pub record Went (ws : List (List ℕ)) (k : Wanted) (value size : ℕ) (rest : L
 abbrev pub Took : List (List ℕ) → Wanted → Result Argument Reason → List (List ℕ) → Type 0
 Took ws k (Ok a) rest = Went ws k a.value a.size rest
 Took ws k (Err reason) rest = (then : Then) → argumentOf k ws then ≡ Err reason
+
+-- what the arguments of bytes are, for OAM and for VRAM
+abbrev pub TookBytes : List (List ℕ) → Result Bytes Reason → List (List ℕ) → Type 0
+TookBytes ws (Ok b) rest = (oam : Bool) → read_bytes oam ws ≡ whole (cond oam Oam Vram b) rest
+TookBytes ws (Err reason) rest = (oam : Bool) → read_bytes oam ws ≡ Err reason

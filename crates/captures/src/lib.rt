@@ -3,7 +3,7 @@
 #![tactic(auto)]
 
 ghost use Rattle.std.specs.Prelude.{◌≡◌, cond, ◌∷◌, ◌++◌, ◌+◌, ◌≤◌, max, length};
-ghost use Rattle.std.specs.Prelude.{not, List, ℕ, position};
+ghost use Rattle.std.specs.Prelude.{not, true, false, List, ℕ, position};
 ghost use Rattle.std.specs.Iterator.{YieldsFirstRef, item_count};
 ghost use Rattle.texts.specs.Numbers.{digits, decimal as decimalText};
 ghost use Rattle.captures.specs.Words.{is_hash, is_blank, text, words};
@@ -14,7 +14,7 @@ ghost use Rattle.captures.specs.Reading.{read_start, read_write, read_bytes, rea
 ghost use Rattle.captures.specs.Reading.{is_optional, wrong as wrongOf, whole as whole_of};
 ghost use Rattle.captures.specs.Reading.{read_call, said, reading};
 ghost use Rattle.captures.specs.Printing.{spaced, kind_word, bytes_words, name_of, arguments_of, printed};
-ghost use Rattle.captures.specs.Parts.{Took};
+ghost use Rattle.captures.specs.Parts.{Took, TookBytes};
 
 use std::marker::Model;
 use texts::Text;
@@ -22,7 +22,8 @@ use texts::Text;
 // What begins a comment.
 const COMMENT: u8 = b'#';
 
-// Bytes for VRAM or OAM: `count` of them (1 to 8), the first the highest of `bytes`, `times` over from `address` on.
+// Bytes for VRAM or OAM: `count` of them (1 to 8), the first the highest of `bytes`, `times` over from `address` on. A number with a
+// count, since a line's digits are read as one number (`number_from`) and say by how many they are how many bytes it stands for.
 #[derive(Clone, Copy, Debug, PartialEq, Eq)]
 pub struct Bytes {
     pub address: u16,
@@ -97,10 +98,9 @@ impl<'a> Model for Words<'a> {
 pub fn read_line(line: &[u8]) -> Result<Option<Call>, Reason>
     ensures { result ≡ reading line.now }
 {
-    let words = Words {
+    read_words(Words {
         text: text_of(line),
-    };
-    read_words(words)
+    })
 }
 
 // The text before a comment.
@@ -128,7 +128,7 @@ fn read_words(mut words: Words) -> Result<Option<Call>, Reason>
     }
 }
 
-// By `==`, since a match on seven texts gives the proof a case for each of their bytes.
+// By `==`: a match on seven texts says no more, and gives the proof a case for each of their bytes.
 fn read_call(name: &[u8], words: Words) -> Result<Option<Call>, Reason>
     ensures { result ≡ read_call name.now words.entry }
 {
@@ -137,9 +137,9 @@ fn read_call(name: &[u8], words: Words) -> Result<Option<Call>, Reason>
     } else if name == b"write".as_slice() {
         read_write(words)
     } else if name == b"vram".as_slice() {
-        read_bytes(words, false)
+        read_vram(words)
     } else if name == b"oam".as_slice() {
-        read_bytes(words, true)
+        read_oam(words)
     } else if name == b"step".as_slice() {
         read_step(words)
     } else if name == b"corrupt".as_slice() {
@@ -162,6 +162,7 @@ fn read_start(mut words: Words) -> Result<Option<Call>, Reason>
     })
 }
 
+// Two arguments, as `read_step`: what they share is `argument` and `whole`, and each line says what differs.
 fn read_write(mut words: Words) -> Result<Option<Call>, Reason>
     ensures { result ≡ read_write words.entry }
 {
@@ -173,27 +174,22 @@ fn read_write(mut words: Words) -> Result<Option<Call>, Reason>
     })
 }
 
-// Bytes for VRAM, or for OAM: two digits make a byte.
-fn read_bytes(mut words: Words, oam: bool) -> Result<Option<Call>, Reason>
-    ensures { result ≡ read_bytes oam words.entry }
+// This and `read_oam` are two lines each: one function over the call's name would need a clause on what that name makes.
+fn read_vram(mut words: Words) -> Result<Option<Call>, Reason>
+    ensures { result ≡ read_bytes false words.entry }
 {
-    let address = words.argument(Wanted::Address)?;
-    let bytes = words.argument(Wanted::Bytes)?;
-    let times = words.argument(Wanted::Times)?;
-    let bytes = Bytes {
-        address: address.value as u16,
-        bytes: bytes.value,
-        count: (bytes.size / 2) as u8,
-        times: times.value as u32,
-    };
-    let call = if oam {
-        Call::Oam(bytes)
-    } else {
-        Call::Vram(bytes)
-    };
-    words.whole(call)
+    let bytes = words.bytes()?;
+    words.whole(Call::Vram(bytes))
 }
 
+fn read_oam(mut words: Words) -> Result<Option<Call>, Reason>
+    ensures { result ≡ read_bytes true words.entry }
+{
+    let bytes = words.bytes()?;
+    words.whole(Call::Oam(bytes))
+}
+
+// Two arguments, as `read_write`, and a line for each of them.
 fn read_step(mut words: Words) -> Result<Option<Call>, Reason>
     ensures { result ≡ read_step words.entry }
 {
@@ -257,6 +253,21 @@ impl<'a> Words<'a> {
         }
     }
 
+    // Takes the arguments of bytes: two digits make one.
+    fn bytes(&mut self) -> Result<Bytes, Reason>
+        ensures { TookBytes self.old result self.new }
+    {
+        let address = self.argument(Wanted::Address)?;
+        let bytes = self.argument(Wanted::Bytes)?;
+        let times = self.argument(Wanted::Times)?;
+        Ok(Bytes {
+            address: address.value as u16,
+            bytes: bytes.value,
+            count: (bytes.size / 2) as u8,
+            times: times.value as u32,
+        })
+    }
+
     // A call is whole where the words end behind its last argument.
     fn whole(mut self, call: Call) -> Result<Option<Call>, Reason>
         ensures { result ≡ whole_of call self.entry }
@@ -275,7 +286,7 @@ fn is_optional(wanted: Wanted) -> bool
     matches!(wanted, Wanted::Times)
 }
 
-// What is wrong with a word that means nothing where an argument is wanted.
+// What is wrong with a word that means nothing where an argument is wanted. By its own name and no `From`: a wanted argument is no reason.
 fn wrong(wanted: Wanted) -> Reason
     ensures { result ≡ wrongOf wanted }
 {
@@ -292,7 +303,8 @@ fn wrong(wanted: Wanted) -> Reason
     }
 }
 
-// What a word means where an argument is wanted.
+// What a word means where an argument is wanted: a number for a flag and a kind too, as `meaning` says, so that one reader,
+// `argument`, and one promise, `Took`, serve all nine.
 fn meant(word: &[u8], wanted: Wanted) -> Option<u64>
     ensures { result ≡ meaning wanted word.now }
 {
@@ -309,7 +321,7 @@ fn meant(word: &[u8], wanted: Wanted) -> Option<u64>
     }
 }
 
-// One of two words: the first means 1, the other 0.
+// One of two words: the first means 1, the other 0. No `bool`: `meant` wants a number of each word.
 fn either(word: &[u8], one: &[u8], other: &[u8]) -> Option<u64>
     ensures { result ≡ either_of one.now other.now word.now }
 {
@@ -322,6 +334,7 @@ fn either(word: &[u8], one: &[u8], other: &[u8]) -> Option<u64>
     }
 }
 
+// A kind by its number, which `Call::Corrupt` has.
 fn kind(word: &[u8]) -> Option<u64>
     ensures { result ≡ kind_of word.now }
 {
@@ -452,13 +465,12 @@ fn put_arguments(out: &mut Text<40>, call: Call)
             put_either(out, cgb, b"colour", b"grey");
         }
         Call::Write { address, value } => {
-            put_hexadecimal(out, address as u64, 4);
-            put_hexadecimal(out, value as u64, 2);
+            put_hexadecimal(out, u64::from(address), 4);
+            put_hexadecimal(out, u64::from(value), 2);
         }
-        Call::Vram(bytes) => put_bytes(out, bytes),
-        Call::Oam(bytes) => put_bytes(out, bytes),
+        Call::Vram(bytes) | Call::Oam(bytes) => put_bytes(out, bytes),
         Call::Step { cycles, times } => {
-            put_decimal(out, cycles as u32);
+            put_decimal(out, u32::from(cycles));
             put_decimal(out, times);
         }
         Call::Corrupt { kind } => put_word(out, kind_word(kind)),
@@ -471,8 +483,8 @@ fn put_bytes(out: &mut Text<40>, bytes: Bytes)
     requires { length out.old + 33 ≤ 40 }
     ensures { out.new ≡ out.old ++ spaced (bytes_words bytes) }
 {
-    let count = bytes.count.min(8) as usize;
-    put_hexadecimal(out, bytes.address as u64, 4);
+    let count = usize::from(bytes.count.min(8));
+    put_hexadecimal(out, u64::from(bytes.address), 4);
     put_hexadecimal(out, bytes.bytes, 2 * count);
     put_decimal(out, bytes.times);
 }
@@ -482,6 +494,7 @@ fn kind_word(kind: u8) -> &'static [u8]
     ensures word { result.now ≡ kind_word kind }
     ensures most { length result.now ≤ 10 }
 {
+    // By the number, since `print_call` takes any: those over 2 print as the third.
     match kind {
         0 => b"write",
         1 => b"read",

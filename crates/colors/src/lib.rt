@@ -29,9 +29,9 @@ impl Color {
     pub fn to_raw(self) -> u16
         ensures { result ≡ raw_of self }
     {
-        let r = (self.r % 32) as u16;
-        let g = (self.g % 32) as u16;
-        let b = (self.b % 32) as u16;
+        let r = u16::from(self.r % 32);
+        let g = u16::from(self.g % 32);
+        let b = u16::from(self.b % 32);
         r + g * 32 + b * 1024
     }
 }
@@ -46,6 +46,7 @@ pub struct ColorPalette {
 }
 
 impl ColorPalette {
+    // Of four colours. docs/PROMISES.md names it `new`, so it is no `From<[Color; 4]>`.
     pub fn new(colors: [Color; 4]) -> Self
         ensures { result ≡ palette_of colors }
     {
@@ -58,12 +59,12 @@ impl ColorPalette {
         ensures { result ≡ colour_at self index }
     {
         let words = [self.c0, self.c1, self.c2, self.c3];
-        let i = (index % 4) as usize;
-        Color::from_raw(words[i])
+        Color::from_raw(words[usize::from(index % 4)])
     }
 }
 
-// The shade that a palette byte (BGP, OBP0, OBP1) gives a colour number.
+// The shade that a palette byte (BGP, OBP0, OBP1) gives a colour number, which has two bits: docs/PROMISES.md names this function, and a type
+// would ask more of who calls it.
 pub fn shade_of(palette: u8, color: u8) -> u8
     requires { color < 4 }
     ensures { result ≡ shade palette color }
@@ -71,7 +72,8 @@ pub fn shade_of(palette: u8, color: u8) -> u8
     (palette >> (2 * color)) % 4
 }
 
-// Eight palettes of four colours as 64 bytes, with their index port.
+// Eight palettes of four colours as 64 bytes, with their index port. That the index is below 64 stands in clauses: a state can have
+// one over 63, and is refused for it.
 #[derive(Clone, Copy)]
 pub struct PaletteSet {
     pub bytes: [u8; 64],
@@ -112,13 +114,14 @@ impl PaletteSet {
         requires { self.old.index < 64 }
         ensures { self.new ≡ data_written self.old «data» }
     {
-        self.bytes[self.index as usize] = data;
+        self.bytes[usize::from(self.index)] = data;
         if self.auto {
             self.index = (self.index + 1) % 64;
         }
     }
 
-    // The set after a write to its data port, or else to its index port: for those who hold it by value.
+    // The set after a write to its data port, or else to its index port: for those who hold it by value. The port is a flag, since
+    // docs/PROMISES.md and docs/DECISIONS.md (16) name this function; the two writes have names of their own above.
     pub fn after_write(self, data_port: bool, value: u8) -> Self
         requires { data_port ≡ true → self.index < 64 }
         ensures { result ≡ after_write self data_port value }
@@ -136,37 +139,30 @@ impl PaletteSet {
         requires { self.index < 64 }
         ensures { result ≡ data_read self }
     {
-        let at = self.index as usize;
-        self.bytes[at]
+        self.bytes[usize::from(self.index)]
     }
+
     // Palette p of the eight, p modulo 8.
     pub fn get_palette(self, p: u8) -> ColorPalette
         ensures { result ≡ palette self.bytes p }
     {
-        let at = (p % 8) as usize * 8;
-        let bytes = self.bytes;
-        ColorPalette {
-            c0: word_at(bytes, at),
-            c1: word_at(bytes, at + 2),
-            c2: word_at(bytes, at + 4),
-            c3: word_at(bytes, at + 6),
-        }
+        let at = usize::from(p % 8) * 8;
+        let [c0, c1, c2, c3]: [u16; 4] = std::array::from_fn(|k| word_at(self.bytes, at + 2 * k));
+        ColorPalette { c0, c1, c2, c3 }
     }
 
-    // The set with a palette in place of palette p, p modulo 8.
+    // The set with a palette in place of palette p, p modulo 8. A line a word: docs/01-scope.md has a palette be four numbers, and a
+    // loop would have to list them first.
     pub fn set_palette(self, p: u8, palette: ColorPalette) -> Self
         ensures { result ≡ palette_set self p palette }
     {
-        let at = (p % 8) as usize * 8;
-        let old = self.bytes;
-        let one = with_word(old, at, palette.c0);
+        let at = usize::from(p % 8) * 8;
+        let one = with_word(self.bytes, at, palette.c0);
         let two = with_word(one, at + 2, palette.c1);
         let three = with_word(two, at + 4, palette.c2);
-        let four = with_word(three, at + 6, palette.c3);
         PaletteSet {
-            bytes: four,
-            index: self.index,
-            auto: self.auto,
+            bytes: with_word(three, at + 6, palette.c3),
+            ..self
         }
     }
 }

@@ -3,8 +3,8 @@ use Rattle.std.proofs.Common.{◌≡◌, ℕ, ◌+◌, ◌<◌, ◌≤◌, Bool,
 use Rattle.hardware.specs.Screen.{width}
 use Rattle.fifo.specs.Background.{bg_front, bg_rest}
 use Rattle.fifo.specs.Sprites.{sprite_popped}
-use Rattle.fifo.specs.declared.BgFifo.{BgFifo}
-use Rattle.fifo.specs.declared.SpriteFifo.{SpriteFifo}
+use Rattle.fifo.specs.Background.{BgFifo}
+use Rattle.fifo.specs.Sprites.{SpriteFifo}
 use Rattle.fifo.proofs.Background.{bg_popped_every}
 use Rattle.fifo.proofs.Sprites.{sprite_popped_every, sprite_popped_len, sprite_popped_slots}
 use Rattle.pixel.proofs.Added.{sprites_fine}

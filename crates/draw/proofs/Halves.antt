@@ -7,7 +7,7 @@ use Rattle.logic.proofs.Both.{neither}
 use Rattle.hardware.specs.Screen.{width}
 use Rattle.fifo.specs.Background.{bg_rest}
 use Rattle.fifo.specs.Sprites.{sprite_popped}
-use Rattle.fifo.specs.declared.SpriteFifo.{SpriteFifo}
+use Rattle.fifo.specs.Sprites.{SpriteFifo}
 use Rattle.fifo.proofs.Sprites.{sprite_popped_slots}
 use Rattle.pixel.proofs.Added.{sprites_none}
 use Rattle.pixel.specs.Sprites.{none_starts}

@@ -5,7 +5,7 @@ use Rattle.hardware.specs.Screen.{width}
 use Rattle.hardware.specs.Tables.{vram_bytes}
 use Rattle.fifo.specs.Background.{bg_front, bg_rest}
 use Rattle.fifo.specs.Sprites.{sprite_popped}
-use Rattle.fifo.specs.declared.SpriteFifo.{SpriteFifo}
+use Rattle.fifo.specs.Sprites.{SpriteFifo}
 use Rattle.lcd.specs.Mix.{mix}
 use Rattle.lcd.specs.declared.Rgb.{Rgb}
 use Rattle.pixel.specs.Sprites.{sprites_added}

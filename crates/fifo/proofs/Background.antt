@@ -11,8 +11,8 @@ use Rattle.logic.proofs.Every.{every_append, every_cons}
 use Rattle.colors.specs.declared.ColorPalette.{ColorPalette}
 use Rattle.fifo.specs.Ring.{live}
 use Rattle.fifo.specs.Background.{bg_blank, bg_queued, bg_inked, bg_row, bg_front, bg_rest}
-use Rattle.fifo.specs.Laws.{BgStarts, BgClears, BgCounts, BgPushes, BgPops, BgPushSlots, BgPushLen, BgPushEvery, BgPopLen, BgPopEvery, BgClearEvery}
-use Rattle.fifo.proofs.Ring.{live_length, live_pop, laid_length, laid_live}
+use Rattle.fifo.specs.Laws.{BgStarts, BgClears, BgCounts, BgPushes, BgPops, BgGives, BgPushSlots, BgPushLen, BgPushEvery, BgPopLen, BgPopEvery, BgClearEvery}
+use Rattle.fifo.proofs.Ring.{live_length, live_pop, laid_length, laid_live, popped_some}
 
 -- nothing is queued at the start, nor after a clear
 pub bg_fresh_law : BgStarts
@@ -52,6 +52,9 @@ bg_pushed_every test q row slots eight h a b =
 -- a pop: the front leaves
 pub bg_popped_law : BgPops
 bg_popped_law q h = live_pop 16 bg_blank q.pixels q.head q.len h
+
+pub bg_popped_some : BgGives
+bg_popped_some = popped_some bg_blank
 
 pub bg_popped_len : BgPopLen
 bg_popped_len q h = omega arith

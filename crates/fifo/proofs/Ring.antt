@@ -6,11 +6,13 @@ use Prim.Native.Nat.{ℕ, zero, suc, ◌+◌, ◌-◌, ◌%◌, ◌≤◌, ◌<�
 use native.Mathlib.Nat.{suc-add, add-suc, add-zero, mod-lt, mod-mod, mod-add-mod, mod-eq_of_lt, mod-eq-sub-mod, suc-mod}
 use native.Mathlib.Numerals.{add-one}
 use native.Mathlib.Omega.{arith}
-use borrow.Author.Tests.{ltb-true, ltb-false}
+use borrow.Author.Tests.{eq-eqb, ne_eqb, ltb-true, ltb-false}
 use lib.Dec.{ltb}
 use lib.ListN.{length, take, get_or, set, length-set}
 use lib.Seq.{take-suc, get_or-set_same, get_or-set_other, length-take-le}
-use Rattle.fifo.specs.Ring.{live, laid}
+use Rattle.std.proofs.Common.{Some, None}
+use Rattle.fifo.specs.declared.Fifo.{Fifo}
+use Rattle.fifo.specs.Ring.{live, laid, front, rest, popped}
 
 -- less than a round on is another slot, whether the end of the ring lies between or not
 on : {size r j : ℕ} → 0 < j → r + j < size → (r + j) % size ≡ r → ⊥
@@ -121,3 +123,13 @@ module _ {A : Type 0} (size : ℕ) (blank : A) where
       let e : suc at % size ≡ (at % size + 1) % size % size = suc-mod at size ∙ rw (mod-mod, add-one) in
       let less : suc n - 1 ≡ n = omega arith in
       rw (live_round slots (suc at) ((at % size + 1) % size) n e, less)
+
+-- a pop of an empty queue, and of one that is not
+module _ {P : Type 0} {N : ℕ} (blank : P) where
+  pub popped_none : (q : Fifo P N) → q.len ≡ 0 → popped blank q ≡ record { answer = None; fifo = q }
+  unfolding popped
+  popped_none q e = rw (eq-eqb _ _ e)
+
+  pub popped_some : (q : Fifo P N) → 0 < q.len → popped blank q ≡ record { answer = Some (front blank q); fifo = rest q }
+  unfolding popped
+  popped_some q h = rw (ne_eqb q.len 0 (λ e. omega arith))

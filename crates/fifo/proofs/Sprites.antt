@@ -7,19 +7,16 @@ use mathlib.Core.Logic.{⊎_elim}
 use Prim.Native.Nat.{ℕ, suc, ◌-◌, ◌≤◌, ◌<◌}
 use native.Mathlib.Nat.{add-zero, eq-zero-or-pos}
 use native.Mathlib.Omega.{arith}
-use borrow.Author.Tests.{eq-eqb, ne_eqb}
 use lib.ListN.{length, length-map}
 use Rattle.logic.specs.Every.{every}
 use Rattle.logic.proofs.Tests.{by_test}
 use Rattle.logic.proofs.Both.{both, first, second}
 use Rattle.logic.proofs.Every.{every_cons}
 use Rattle.fifo.specs.declared.SpriteFifoPixel.{SpriteFifoPixel}
-use Rattle.fifo.specs.declared.SpriteFifo.{SpriteFifo}
-use Rattle.fifo.specs.declared.SpritePopped.{SpritePopped}
-use Rattle.fifo.specs.Ring.{live}
-use Rattle.fifo.specs.Sprites.{sprite_blank, sprite_queued, inked, inked_row, covers, over, merged, sprite_front, sprite_rest, sprite_popped}
+use Rattle.fifo.specs.Ring.{Popped, live}
+use Rattle.fifo.specs.Sprites.{SpriteFifo, sprite_blank, sprite_queued, inked, inked_row, covers, over, merged, sprite_front, sprite_rest, sprite_popped}
 use Rattle.fifo.specs.Laws.{SpriteStarts, SpriteClears, SpriteCounts, SpritePushes, SpritePops, SpriteGives, SpriteGivesNothing, SpritePushSlots, SpritePushEvery, SpritePopSlots, SpritePopLen, SpritePopEvery, SpritePixelEvery, SpriteClearEvery}
-use Rattle.fifo.proofs.Ring.{live_length, live_pop, laid_length, laid_live}
+use Rattle.fifo.proofs.Ring.{live_length, live_pop, laid_length, laid_live, popped_none, popped_some}
 
 -- nothing is queued at the start, nor after a clear
 pub sprite_fresh_law : SpriteStarts
@@ -84,16 +81,14 @@ pub sprite_popped_law : SpritePops
 sprite_popped_law q h = live_pop 8 sprite_blank q.pixels q.head q.len h
 
 pub sprite_popped_none : (q : SpriteFifo) → q.len ≡ 0 → sprite_popped q ≡ record { answer = None; fifo = q }
-unfolding sprite_popped
-sprite_popped_none q e = rw (eq-eqb _ _ e)
+sprite_popped_none = popped_none sprite_blank
 
 pub sprite_popped_some : SpriteGives
-unfolding sprite_popped
-sprite_popped_some q h = rw (ne_eqb q.len 0 (λ e. omega arith))
+sprite_popped_some = popped_some sprite_blank
 
 -- the same with no case apart: an empty queue stays as it is
 module _ (q : SpriteFifo) where
-  none_or_some : (P : SpritePopped → Type 0) → (q.len ≡ 0 → P (record { answer = None; fifo = q }))
+  none_or_some : (P : Popped SpriteFifoPixel 8 → Type 0) → (q.len ≡ 0 → P (record { answer = None; fifo = q }))
       → (0 < q.len → P (record { answer = Some (sprite_front q); fifo = sprite_rest q })) → P (sprite_popped q)
   none_or_some P none some = ⊎_elim (λ e. rw (sprite_popped_none q e) (none e)) (λ h. rw (sprite_popped_some q h) (some h)) (eq-zero-or-pos q.len)
 

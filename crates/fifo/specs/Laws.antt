@@ -4,11 +4,10 @@
 use Rattle.std.specs.Prelude.{◌+◌, ◌-◌, ◌≤◌, ◌<◌, ◌≡◌, Bool, true, List, [], ◌∷◌, ◌++◌, length, Some, None}
 use Rattle.logic.specs.Every.{every}
 use Rattle.fifo.specs.declared.BgFifoPixel.{BgFifoPixel}
-use Rattle.fifo.specs.declared.BgFifo.{BgFifo}
 use Rattle.fifo.specs.declared.SpriteFifoPixel.{SpriteFifoPixel}
-use Rattle.fifo.specs.declared.SpriteFifo.{SpriteFifo}
-use Rattle.fifo.specs.Background.{bg_queued, bg_fresh, bg_pushed, bg_front, bg_rest, bg_cleared}
-use Rattle.fifo.specs.Sprites.{sprite_queued, sprite_fresh, merged, sprite_pushed, sprite_cleared}
+use Rattle.fifo.specs.Ring.{popped}
+use Rattle.fifo.specs.Background.{BgFifo, bg_blank, bg_queued, bg_fresh, bg_pushed, bg_front, bg_rest, bg_popped, bg_cleared}
+use Rattle.fifo.specs.Sprites.{SpriteFifo, sprite_queued, sprite_fresh, merged, sprite_pushed, sprite_cleared}
 use Rattle.fifo.specs.Sprites.{sprite_front, sprite_rest, sprite_popped}
 
 -- the background queue. Nothing is queued at the start, nor after a clear
@@ -31,6 +30,9 @@ BgPushes =
 -- a pop takes the pixel at the front, and the others stay
 abbrev pub BgPops : Type 0
 BgPops = (q : BgFifo) → 0 < q.len → bg_queued q ≡ bg_front q ∷ bg_queued (bg_rest q)
+
+abbrev pub BgGives : Type 0
+BgGives = (q : BgFifo) → 0 < q.len → popped bg_blank q ≡ bg_popped q
 
 -- the sprite queue. Nothing is queued at the start, nor after a clear
 abbrev pub SpriteStarts : Type 0

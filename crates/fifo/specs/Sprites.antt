@@ -1,9 +1,12 @@
 -- Pan Docs, "Pixel FIFO" and "Drawing priority": the sprite queue. A sprite's eight pixels are mixed with those that wait.
-use Rattle.std.specs.Prelude.{ℕ, ◌+◌, ◌-◌, ◌%◌, Bool, false, not, cond, ◌&&◌, ◌||◌, List, [], ◌∷◌, map, eqb, ltb, get_or, replicate, Some, None}
+use Rattle.std.specs.Prelude.{ℕ, Bool, false, not, cond, ◌&&◌, ◌||◌, List, [], ◌∷◌, map, eqb, ltb}
 use Rattle.fifo.specs.declared.SpriteFifoPixel.{SpriteFifoPixel}
-use Rattle.fifo.specs.declared.SpriteFifo.{SpriteFifo}
-use Rattle.fifo.specs.declared.SpritePopped.{SpritePopped}
-use Rattle.fifo.specs.Ring.{live, laid}
+use Rattle.fifo.specs.declared.Fifo.{Fifo}
+use Rattle.fifo.specs.Ring.{Popped, laid, queued, fresh, front, rest, popped, cleared}
+
+-- the queue: eight slots
+abbrev pub SpriteFifo : Type 0
+SpriteFifo = Fifo SpriteFifoPixel 8
 
 -- a pixel of nothing
 abbrev pub sprite_blank : SpriteFifoPixel
@@ -11,11 +14,11 @@ sprite_blank = record { color = 0; palette = record { c0 = 0; c1 = 0; c2 = 0; c3
 
 -- the queued pixels, front to back: pixel k stands in slot head + k, modulo 8
 abbrev pub sprite_queued : SpriteFifo → List SpriteFifoPixel
-sprite_queued q = live 8 sprite_blank q.pixels q.head q.len
+sprite_queued q = queued sprite_blank q
 
 -- at the start: blank slots, nothing queued
 abbrev pub sprite_fresh : SpriteFifo
-sprite_fresh = record { pixels = replicate 8 sprite_blank; head = 0; len = 0 }
+sprite_fresh = fresh sprite_blank
 
 -- a sprite's row: its pixel in each of the colours
 abbrev pub inked : SpriteFifoPixel → ℕ → SpriteFifoPixel
@@ -47,18 +50,14 @@ sprite_pushed coord q row =
 
 -- a pop gives the pixel at the head, and the head moves on; or nothing when the queue is empty
 abbrev pub sprite_front : SpriteFifo → SpriteFifoPixel
-sprite_front q = get_or q.pixels (q.head % 8) sprite_blank
+sprite_front q = front sprite_blank q
 
 abbrev pub sprite_rest : SpriteFifo → SpriteFifo
-sprite_rest q = record { pixels = q.pixels; head = (q.head % 8 + 1) % 8; len = q.len - 1 }
+sprite_rest q = rest q
 
-unfoldable pub sprite_popped : SpriteFifo → SpritePopped
-sprite_popped q =
-    cond
-    (eqb q.len 0)
-    (record { answer = None; fifo = q })
-    (record { answer = Some (sprite_front q); fifo = sprite_rest q })
+abbrev pub sprite_popped : SpriteFifo → Popped SpriteFifoPixel 8
+sprite_popped q = popped sprite_blank q
 
 -- emptied, the slots stay
 abbrev pub sprite_cleared : SpriteFifo → SpriteFifo
-sprite_cleared q = record { pixels = q.pixels; head = 0; len = 0 }
+sprite_cleared q = cleared q

@@ -2,8 +2,9 @@
 #![tactic(auto)]
 
 ghost use Rattle.std.specs.Prelude.{◌≡◌, ◌+◌, ◌%◌, ◌<◌, ◌≤◌, get_or};
-ghost use Rattle.fifo.specs.Background.{bg_blank, bg_fresh, bg_row, bg_pushed, bg_popped, bg_cleared};
-ghost use Rattle.fifo.specs.Sprites.{sprite_blank, sprite_fresh, inked, over, inked_row, sprite_pushed, sprite_popped, sprite_cleared};
+ghost use Rattle.fifo.specs.Ring.{fresh, front, rest, cleared, popped};
+ghost use Rattle.fifo.specs.Background.{bg_blank, bg_row, bg_pushed};
+ghost use Rattle.fifo.specs.Sprites.{sprite_blank, inked, over, inked_row, sprite_pushed};
 
 use colors::ColorPalette;
 
@@ -17,7 +18,7 @@ pub struct BgFifoPixel {
 }
 
 // A sprite pixel: its palette, its colour number, whether the palette is OBP0 or OBP1 outside colour mode, its place in OAM,
-// and whether it stands behind.
+// and whether it stands behind. OBP0 or OBP1 is a number, since a state can have one over 1, and is refused for it.
 #[derive(Clone, Copy)]
 pub struct SpriteFifoPixel {
     pub palette: ColorPalette,
@@ -27,102 +28,139 @@ pub struct SpriteFifoPixel {
     pub priority: bool,
 }
 
-// The background queue: `len` pixels from slot `head` on, modulo 16.
+// The colours of a pixel of nothing.
+const NO_PALETTE: ColorPalette = ColorPalette {
+    c0: 0,
+    c1: 0,
+    c2: 0,
+    c3: 0,
+};
+
+// A pixel of either queue: there is one of nothing, which fills the slots at the start.
+pub trait Pixel: Copy {
+    ghost BLANK: { Self };
+
+    const BLANK: Self;
+}
+
+impl Pixel for BgFifoPixel {
+    ghost BLANK = { bg_blank };
+
+    const BLANK: Self = BgFifoPixel {
+        color: 0,
+        palette: NO_PALETTE,
+        priority: false,
+    };
+}
+
+impl Pixel for SpriteFifoPixel {
+    ghost BLANK = { sprite_blank };
+
+    const BLANK: Self = SpriteFifoPixel {
+        color: 0,
+        palette: NO_PALETTE,
+        obp: 0,
+        index: 0,
+        priority: false,
+    };
+}
+
+// A queue in a ring of N slots: `len` pixels from slot `head` on, modulo N. docs/01-scope.md has it as an array with a head and a length, and
+// nothing here allocates.
 #[derive(Clone, Copy)]
-pub struct BgFifo {
-    pub pixels: [BgFifoPixel; 16],
+pub struct Fifo<P, const N: usize> {
+    pub pixels: [P; N],
     pub head: u8,
     pub len: u8,
 }
 
-// Slot k of a ring of so many slots, counted from its head.
-fn slot<const SLOTS: usize>(head: u8, k: usize) -> usize
-    requires { (0 < SLOTS) × (k < 256) }
-    ensures { result ≡ (head + k) % SLOTS }
-{
-    (head as usize + k) % SLOTS
-}
+pub type BgFifo = Fifo<BgFifoPixel, 16>;
 
-// What a pop of the background queue gives.
-#[derive(Clone, Copy)]
-pub struct BgPopped {
-    pub pixel: BgFifoPixel,
-    pub fifo: BgFifo,
-}
+pub type SpriteFifo = Fifo<SpriteFifoPixel, 8>;
 
-impl BgFifo {
+impl<P: Pixel, const N: usize> Fifo<P, N> {
     pub fn fresh() -> Self
-        ensures { result ≡ bg_fresh }
+        ensures { result ≡ fresh P.BLANK }
     {
-        let palette = ColorPalette {
-            c0: 0,
-            c1: 0,
-            c2: 0,
-            c3: 0,
-        };
-        let blank = BgFifoPixel {
-            color: 0,
-            palette,
-            priority: false,
-        };
-        BgFifo {
-            pixels: [blank; 16],
+        Fifo {
+            pixels: [P::BLANK; N],
             head: 0,
             len: 0,
         }
     }
 
-    // Eight pixels of one palette join at the back.
-    pub fn push(mut self, colors: [u8; 8], palette: ColorPalette, priority: bool) -> Self
-        requires { self.len ≤ 8 }
-        ensures { result ≡ bg_pushed self (bg_row palette priority colors) }
+    // Slot k of the ring, counted from its head.
+    fn slot(&self, k: usize) -> usize
+        requires { (0 < N) × (k < 256) }
+        ensures { result ≡ (self.now.head + k) % N }
     {
-        let len = self.len as usize;
+        (usize::from(self.head) + k) % N
+    }
+
+    // Pixel k of the queue, counted from the front.
+    pub fn pixel(&self, k: usize) -> P
+        requires in_range { k < N }
+        // true of N = 16 and N = 8 by computing, so that no caller shows it
+        requires slots { N < 256 }
+        ensures { result ≡ get_or self.now.pixels ((self.now.head + k) % N) P.BLANK }
+    {
+        self.pixels[self.slot(k)]
+    }
+
+    // The pixel at the front leaves.
+    pub fn take_front(&mut self) -> P
+        requires some { 0 < self.old.len }
+        // true of N = 16 and N = 8 by computing, so that no caller shows it
+        requires slots { (0 < N) × (N < 256) }
+        ensures answer { result ≡ front P.BLANK self.old }
+        ensures rest { self.new ≡ rest self.old }
+    {
+        let at = usize::from(self.head) % N;
+        self.head = ((at + 1) % N) as u8;
+        self.len -= 1;
+        self.pixels[at]
+    }
+
+    // The pixel at the front leaves, if there is one.
+    pub fn pop(&mut self) -> Option<P>
+        // true of N = 16 and N = 8 by computing, so that no caller shows it
+        requires slots { (0 < N) × (N < 256) }
+        ensures answer { result ≡ (popped P.BLANK self.old).answer }
+        ensures rest { self.new ≡ (popped P.BLANK self.old).fifo }
+    {
+        if self.len == 0 {
+            None
+        } else {
+            Some(self.take_front())
+        }
+    }
+
+    // Every pixel leaves; the slots keep what they had.
+    pub fn clear(&mut self)
+        ensures { self.new ≡ cleared self.old }
+    {
+        self.head = 0;
+        self.len = 0;
+    }
+}
+
+impl BgFifo {
+    // Eight pixels of one palette join at the back. A clause, and no type, says that there is room: a state can have a
+    // length over 16, and is refused for it.
+    pub fn push(&mut self, colors: [u8; 8], palette: ColorPalette, priority: bool)
+        requires { self.old.len ≤ 8 }
+        ensures { self.new ≡ bg_pushed self.old (bg_row palette priority colors) }
+    {
+        let len = usize::from(self.len);
         for (k, color) in colors.iter().enumerate() {
-            self.pixels[slot::<16>(self.head, len + k)] = BgFifoPixel {
+            let at = self.slot(len + k);
+            self.pixels[at] = BgFifoPixel {
                 color: *color,
                 palette,
                 priority,
             };
         }
         self.len += 8;
-        self
-    }
-
-    // Pixel k of the queue, counted from the front.
-    pub fn pixel(&self, k: usize) -> BgFifoPixel
-        requires { k < 16 }
-        ensures { result ≡ get_or self.now.pixels ((self.now.head + k) % 16) bg_blank }
-    {
-        self.pixels[slot::<16>(self.head, k)]
-    }
-
-    // The pixel at the front leaves.
-    pub fn pop(self) -> BgPopped
-        requires { 0 < self.len }
-        ensures { result ≡ bg_popped self }
-    {
-        let at = (self.head % 16) as usize;
-        let pixels = self.pixels;
-        let pixel = pixels[at];
-        let fifo = BgFifo {
-            pixels,
-            head: (self.head % 16 + 1) % 16,
-            len: self.len - 1,
-        };
-        BgPopped { pixel, fifo }
-    }
-
-    // Every pixel leaves; the slots keep what they had.
-    pub fn clear(self) -> Self
-        ensures { result ≡ bg_cleared self }
-    {
-        let pixels = self.pixels;
-        BgFifo {
-            pixels,
-            head: 0,
-            len: 0,
-        }
     }
 }
 
@@ -131,129 +169,34 @@ impl SpriteFifoPixel {
     fn inked(self, color: u8) -> Self
         ensures { result ≡ inked self color }
     {
-        let mut next = self;
-        next.color = color;
-        next
+        SpriteFifoPixel { color, ..self }
     }
 
     // Which of two pixels of one place is kept: the older, or a newer one that covers it.
+    #[tactic(auto, unfolding(crate::specs::Sprites::covers))]
     fn over(self, old: SpriteFifoPixel, coord: bool) -> Self
         ensures { result ≡ over coord old self }
     {
-        if self.color == 0 {
-            return old;
-        }
-        if old.color == 0 {
-            return self;
-        }
-        if coord {
-            return old;
-        }
-        if self.index < old.index {
-            return self;
-        }
-        old
+        let covers = self.color != 0 && (old.color == 0 || !coord && self.index < old.index);
+        if covers { self } else { old }
     }
-}
-
-// The sprite queue: `len` pixels from slot `head` on, modulo 8.
-#[derive(Clone, Copy)]
-pub struct SpriteFifo {
-    pub pixels: [SpriteFifoPixel; 8],
-    pub head: u8,
-    pub len: u8,
-}
-
-// What a pop of the sprite queue gives: a pixel, or nothing when the queue is empty.
-#[derive(Clone, Copy)]
-pub struct SpritePopped {
-    pub answer: Option<SpriteFifoPixel>,
-    pub fifo: SpriteFifo,
 }
 
 impl SpriteFifo {
-    pub fn fresh() -> Self
-        ensures { result ≡ sprite_fresh }
-    {
-        let palette = ColorPalette {
-            c0: 0,
-            c1: 0,
-            c2: 0,
-            c3: 0,
-        };
-        let blank = SpriteFifoPixel {
-            color: 0,
-            palette,
-            obp: 0,
-            index: 0,
-            priority: false,
-        };
-        SpriteFifo {
-            pixels: [blank; 8],
-            head: 0,
-            len: 0,
-        }
-    }
-
     // Eight pixels of a sprite, `ink` in each of the colours, are laid over the queue.
-    pub fn push(mut self, colors: [u8; 8], ink: SpriteFifoPixel, coord: bool) -> Self
-        requires { self.len ≤ 8 }
-        ensures { result ≡ sprite_pushed coord self (inked_row ink colors) }
+    pub fn push(&mut self, colors: [u8; 8], ink: SpriteFifoPixel, coord: bool)
+        requires { self.old.len ≤ 8 }
+        ensures { self.new ≡ sprite_pushed coord self.old (inked_row ink colors) }
     {
         for (k, color) in colors.iter().enumerate() {
-            let at = slot::<8>(self.head, k);
+            let at = self.slot(k);
             let new = ink.inked(*color);
-            self.pixels[at] = if k < self.len as usize {
+            self.pixels[at] = if k < usize::from(self.len) {
                 new.over(self.pixels[at], coord)
             } else {
                 new
             };
         }
         self.len = 8;
-        self
-    }
-
-    // Pixel k of the queue, counted from the front.
-    pub fn pixel(&self, k: usize) -> SpriteFifoPixel
-        requires { k < 8 }
-        ensures { result ≡ get_or self.now.pixels ((self.now.head + k) % 8) sprite_blank }
-    {
-        self.pixels[slot::<8>(self.head, k)]
-    }
-
-    // The pixel at the front leaves, if there is one.
-    pub fn pop(self) -> SpritePopped
-        ensures { result ≡ sprite_popped self }
-    {
-        if self.len == 0 {
-            return SpritePopped {
-                answer: None,
-                fifo: self,
-            };
-        }
-        let at = (self.head % 8) as usize;
-        let pixels = self.pixels;
-        let pixel = pixels[at];
-        let fifo = SpriteFifo {
-            pixels,
-            head: (self.head % 8 + 1) % 8,
-            len: self.len - 1,
-        };
-        SpritePopped {
-            answer: Some(pixel),
-            fifo,
-        }
-    }
-
-    // Every pixel leaves; the slots keep what they had.
-    pub fn clear(self) -> Self
-        ensures { result ≡ sprite_cleared self }
-    {
-        let pixels = self.pixels;
-        SpriteFifo {
-            pixels,
-            head: 0,
-            len: 0,
-        }
     }
 }

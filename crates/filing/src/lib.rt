@@ -37,6 +37,7 @@ pub enum Unfiled {
 }
 
 // The word of a mark.
+#[tactic(auto, unfolding(crate::specs::Names::mark_word))]
 pub fn mark_word(mark: Mark) -> &'static [u8]
     ensures word { result.now ≡ mark_word mark }
     ensures most { length result.now ≤ 6 }
@@ -49,6 +50,7 @@ pub fn mark_word(mark: Mark) -> &'static [u8]
 }
 
 // What tells in a name that a picture is not whole.
+#[tactic(auto, unfolding(crate::specs::Names::mark_end))]
 fn mark_end(mark: Mark) -> &'static [u8]
     ensures end { result.now ≡ mark_end mark }
     ensures most { length result.now ≤ 7 }
@@ -61,12 +63,13 @@ fn mark_end(mark: Mark) -> &'static [u8]
 }
 
 // The name of a picture's file.
+#[tactic(auto, unfolding(crate::specs::Names::name_of))]
 pub fn name_of(number: u32, mark: Mark) -> Text<32>
     ensures { result ≡ name_of number mark }
 {
     let mut name = Text::new();
     name.put(b"picture-");
-    name.put_digits(number as u64, 10, 6);
+    name.put_digits(u64::from(number), 10, 6);
     name.put(mark_end(mark));
     name.put(b".png");
     name
@@ -104,7 +107,7 @@ pub fn file_of(
     png::begin(out);
     put_number(out, b"Number", label.number);
     png::add_text(out, b"Mark", mark_word(label.mark));
-    put_number(out, b"Stored", label.stored as u32);
+    put_number(out, b"Stored", u32::from(label.stored));
     png::add_text(out, b"Capture", capture);
     png::finish(out, picture);
     Ok(())
@@ -121,11 +124,12 @@ fn last_part(path: &[u8]) -> &[u8]
 }
 
 // A byte of a name as it is shown: what is no letter, digit or sign of ASCII is a `?`.
+#[tactic(auto, unfolding(crate::specs::Names::shown))]
 fn shown(byte: u8) -> u8
     ensures { result ≡ shown_of byte }
 {
     match byte {
-        32..=126 => byte,
+        b' '..=b'~' => byte,
         _ => b'?',
     }
 }

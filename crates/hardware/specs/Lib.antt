@@ -1,3 +1,4 @@
--- What the contracts cite of the machine's measures, and the tables that are lent.
+-- What the contracts cite of the machine's measures, its modes, and the tables that are lent.
+pub mod Modes
 pub mod Screen
 pub mod Tables

@@ -87,6 +87,7 @@ pub fn set_colour(s: &mut State, flag: bool) -> Result<(), Refusal>
     ppu::set_colour(s, flag)
 }
 
+// The kind stays a number, as in `ports`: `Corrupts` says of every number what is answered.
 pub fn oam_bug(s: &State, oam: &mut [u8], kind: u8) -> Result<(), Refusal>
     ensures { Corrupts kind s.now oam.old (answered result s.now) oam.new }
 {

@@ -29,9 +29,9 @@ fn quarter_of(sum: u16) -> u8
 pub fn mixed(c: Color) -> Rgb
     ensures { result ≡ mix c }
 {
-    let r = c.r as u16;
-    let g = c.g as u16;
-    let b = c.b as u16;
+    let r = u16::from(c.r);
+    let g = u16::from(c.g);
+    let b = u16::from(c.b);
     let rg = r + g;
     let gb = g + b;
     let rb = r + b;
@@ -46,10 +46,11 @@ pub fn mixed(c: Color) -> Rgb
 pub fn offset_of(x: u8, y: u8) -> usize
     ensures { result ≡ offset x y }
 {
-    3 * (Machine::WIDTH * y as usize + x as usize)
+    3 * (Machine::WIDTH * usize::from(y) + usize::from(x))
 }
 
-// Stores three bytes at a place of a picture.
+// Stores three bytes at a place of a picture, one by one, as `stored` has them. A slice with a clause on its length: docs/PROMISES.md names this function, and
+// `&mut [u8; Machine::PICTURE_BYTES]` would ask more of a caller.
 pub fn store(picture: &mut [u8], x: u8, y: u8, p: Rgb)
     requires { (length picture.old ≡ picture_bytes) × (x < width) × (y < height) }
     ensures { picture.new ≡ stored picture.old x y p }
@@ -60,7 +61,7 @@ pub fn store(picture: &mut [u8], x: u8, y: u8, p: Rgb)
     picture[at + 2] = p.blue;
 }
 
-// Fills a picture with one byte.
+// Fills a picture with one byte. docs/PROMISES.md names this function; a start fills VRAM and OAM by it too.
 pub fn fill(picture: &mut [u8], v: u8)
     ensures { picture.new ≡ replicate (length picture.old) v }
 {

@@ -46,28 +46,34 @@ builds oam sets tall e =
     let b = both_sized oam sets p.sized in
     (b.0, b.1, own_none (is_tall tall) (omega arith) p.own)
 
-pub record Writes (oam sets : List ℕ) (rows address value : ℕ) : Type 0 where
-  pub whole : length oam ≡ oam_bytes
-  pub sized : length sets ≡ height
+-- a write that passes its own test
+pub record Writable (oam sets : List ℕ) (rows address value : ℕ) : Type 0 where
   pub tall : is_tall rows ≡ true
   pub inside : address % 256 < oam_bytes
   pub old_sets : are_sets sets (old_y oam address) rows ≡ true
   pub new_sets : are_sets sets (new_y oam address value) rows ≡ true
+
+pub writable : (oam sets : List ℕ) (tall address value : ℕ) → is_writable oam sets tall address value ≡ true → Writable oam sets tall address value
+writable oam sets tall address value all =
+    let at : Bool = is_tall tall && ltb (address % 256) oam_bytes in
+    let old : Bool = are_sets sets (old_y oam address) tall in
+    let three = first (at && old) _ all in
+    record {
+      tall = first (is_tall tall) _ (first at old three);
+      inside = ltb-true _ _ (second (is_tall tall) _ (first at old three));
+      old_sets = second at old three;
+      new_sets = second (at && old) _ all;
+    }
+
+-- and one that is not refused
+pub record Writes (oam sets : List ℕ) (rows address value : ℕ) : Type 0 where
+  pub whole : length oam ≡ oam_bytes
+  pub sized : length sets ≡ height
+  pub can : Writable oam sets rows address value
 
 pub writes : (oam sets : List ℕ) (tall address value : ℕ) → write_number oam sets tall address value ≡ 0 → Writes oam sets tall address value
 unfolding write_number
 writes oam sets tall address value e =
     let p = lowest_none (both_fit oam sets) true e in
     let b = both_sized oam sets p.sized in
-    let all = own_none (is_writable oam sets tall address value) (omega arith) p.own in
-    let at : Bool = is_tall tall && ltb (address % 256) oam_bytes in
-    let old : Bool = are_sets sets (old_y oam address) tall in
-    let three = first (at && old) _ all in
-    record {
-      whole = b.0;
-      sized = b.1;
-      tall = first (is_tall tall) _ (first at old three);
-      inside = ltb-true _ _ (second (is_tall tall) _ (first at old three));
-      old_sets = second at old three;
-      new_sets = second (at && old) _ all;
-    }
+    record { whole = b.0; sized = b.1; can = writable _ _ _ _ _ (own_none (is_writable oam sets tall address value) (omega arith) p.own) }

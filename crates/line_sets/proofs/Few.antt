@@ -111,7 +111,7 @@ few_change oam sets tall address value r oam' sets' c =
     by_number _ r 0
     (λ d.
     let w = writes oam sets tall address value (sym c.number ∙ d) in
-    let sixteen = tall_at_most tall w.tall in
+    let sixteen = tall_at_most tall w.can.tall in
     let old = few_lines (old_y oam address) tall (omega (arith, sixteen)) in
     let new = few_lines (new_y oam address value) tall (omega (arith, sixteen)) in
     let all = passing_either (λ line. in_range (old_y oam address) line tall) (λ line. in_range (new_y oam address value) line tall)

@@ -186,7 +186,7 @@ writes_as_before oam sets tall address value r oam' sets' c w whole t =
     left_done c.number _ _ c.written done)
     (λ e.
     left_refused c.number _ _ c.written
-    (λ z. clash (lt-ltb _ _ (writes oam sets tall address value (sym c.number ∙ z)).inside) e))
+    (λ z. clash (lt-ltb _ _ (writes oam sets tall address value (sym c.number ∙ z)).can.inside) e))
 
 pub others_stay : OthersStay
 others_stay oam sets tall address value r oam' sets' c line h a b =

@@ -5,6 +5,8 @@ pub mod Bits
 pub mod Members
 -- an entry put into a set, or taken out, by the operations on numbers
 pub mod InOut
+-- a call's number by the lengths of its slices
+pub mod Lengths
 -- a call that is not refused
 pub mod Accepted
 -- the lines of the picture, the rows of a sprite on them, and a number a line

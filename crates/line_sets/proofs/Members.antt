@@ -5,7 +5,9 @@ use lib.Arith.{lt-one}
 use lib.Count.{ones, ones_step, count_trailing_zeros}
 use Rattle.wrap.specs.Wrap.{bit_at}
 use Rattle.sprite.specs.Pick.{up_to, those}
-use Rattle.line_sets.specs.Sets.{entries, is_set, members}
+use Rattle.std.specs.Prelude.{Option, Some, None}
+use borrow.Author.Tests.{eqb-false, eqb-true}
+use Rattle.line_sets.specs.Sets.{entries, is_set, members, first_of}
 use Rattle.line_sets.proofs.Bits.{Digit, off, on, digit, digit_is}
 
 -- n numbers from i on
@@ -146,3 +148,24 @@ lowered s h p =
       fits = w.fits;
       rest = rw (found_members s, found_members (s - 2 ^ count_trailing_zeros 64 s)) (w.rest ∙ rw zero-add refl);
     }
+
+-- by the entry that comes first
+pub record Lowest (s i : ℕ) : Type 0 where
+  pub entry : i < entries
+  pub fits : 2 ^ i ≤ s
+  pub rest : members s ≡ i ∷ members (s - 2 ^ i)
+
+pub lowest_of : (s i : ℕ) → is_set s ≡ true → Some i ≡ first_of (members s) → Lowest s i
+lowest_of s i h e = by (eqb s 0) refl
+  where
+    some_is : {j : ℕ} → ◌≡◌ {A = Option ℕ} (Some i) (Some j) → i ≡ j
+    some_is f = cc
+
+    by : (v : Bool) → eqb s 0 ≡ v → Lowest s i
+    by true z =
+        let none : ◌≡◌ {A = Option ℕ} (Some i) None = e ∙ ap first_of (ap members (eqb-true s 0 z) ∙ members_none) in
+        cc
+    by false z =
+        let w = lowered s h (eqb-false s 0 z) in
+        let same : i ≡ count_trailing_zeros 64 s = some_is (e ∙ ap first_of w.rest) in
+        rw same (record { entry = w.entry; fits = w.fits; rest = w.rest })

@@ -14,6 +14,9 @@ use Rattle.line_sets.proofs.Lines.{per_line_law, per_line_at, per_line_length, a
 pub set_of_law : (t : ℕ → Bool) → is_set (set_of t) ≡ true
 set_of_law t = lt-ltb (set_of t) (2 ^ entries) (bits_lt t entries)
 
+pub put_is_set : (i : ℕ) (on : Bool) (s : ℕ) → is_set (put i on s) ≡ true
+put_is_set i on s = set_of_law (λ j. cond (eqb j i) on (bit_at s j))
+
 -- what was put last counts
 put_twice : (i s : ℕ) (v w : Bool) → put i v (put i w s) ≡ put i v s
 put_twice i s v w =
@@ -37,7 +40,7 @@ module _ (i : ℕ) (on : Bool) (y tall : ℕ) (sets : List ℕ) where
   pub put_lines_sets : (other : ℕ) → are_sets sets other tall ≡ true → are_sets (put_lines i on y tall sets) other tall ≡ true
   put_lines_sets other e =
       are_sets_all (put_lines i on y tall sets) other tall
-      (λ line h r. rw (put_lines_at line h) (by_test (λ (s : ℕ). is_set s ≡ true) (in_range y line tall) (λ t. set_of_law (λ j. cond (eqb j i) on (bit_at (get_or sets line 0) j))) (λ t. are_sets_at sets other tall line h e r)))
+      (λ line h r. rw (put_lines_at line h) (by_test (λ (s : ℕ). is_set s ≡ true) (in_range y line tall) (λ t. put_is_set i on (get_or sets line 0)) (λ t. are_sets_at sets other tall line h e r)))
 
 -- out on the old lines, in on the new ones
 pub moves : (i tall old new : ℕ) (sets : List ℕ) → (old ≡ new → ⊥)

@@ -1,13 +1,15 @@
-// Request 12: writes and reads of VRAM and OAM behind the lock of Pan Docs, beside the old writes, which no mode stops. No call asks
+// Writes and reads of VRAM and OAM behind the lock of Pan Docs, beside the writes of `ports`, which no mode stops. No call asks
 // anything of its caller. `ppu` hands them on.
 // Lent memory comes buffer by buffer, and in no struct: `&` and `&mut` tell of each what a call may do with it.
 #![tactic(auto)]
 
 ghost use Rattle.std.specs.Prelude.{◌≡◌};
 ghost use Rattle.ports.specs.Answers.{answered, read_answered};
-ghost use Rattle.locks.specs.Closed.{closed};
+ghost use Rattle.hardware.specs.Modes.{mode_number};
+ghost use Rattle.locks.specs.Closed.{closed_in, closed};
 ghost use Rattle.locks.specs.Calls.{LockedVramWrite, LockedOamWrite, seen, locked_vram_read, locked_oam_read};
 
+use hardware::Mode;
 use refusals::Refusal;
 use state::State;
 
@@ -21,21 +23,27 @@ pub enum Memory {
 impl Memory {
     // What a read of a closed memory gives.
     pub const CLOSED_BYTE: u8 = 0xFF;
+
+    // Whether a mode closes it: VRAM is drawn from in mode 3, OAM is searched in mode 2 and drawn from in mode 3.
+    fn is_closed_in(self, mode: Mode) -> bool
+        ensures { result ≡ closed_in self (mode_number mode) }
+    {
+        match self {
+            Memory::Vram => mode == Mode::Draw,
+            Memory::Oam => matches!(mode, Mode::Search | Mode::Draw),
+        }
+    }
 }
 
-// Whether a memory is closed: with the display on, VRAM in mode 3, OAM in modes 2 and 3.
+// Whether a memory is closed: with the display on, in a mode that closes it.
 pub fn is_closed(memory: Memory, s: State) -> bool
     ensures { result ≡ closed memory s }
 {
-    if !wrap::bit(s.regs.lcdc, 7) {
-        return false;
-    }
-    let mode = s.regs.stat % 4;
-    match memory {
-        Memory::Vram => mode == 3,
-        Memory::Oam => mode == 2 || mode == 3,
-    }
+    wrap::bit(s.regs.lcdc, 7) && memory.is_closed_in(Mode::of(s.regs.stat))
 }
+
+// Two writes and two reads, and no one function of each: a call is its terms, its lock and its access, and those of VRAM and of OAM differ
+// in all three.
 
 // A VRAM write that a closed VRAM takes and drops. Refused by 1, 2.
 pub fn locked_write_vram(s: &State, vram: &mut [u8], address: u16, value: u8) -> Result<(), Refusal>
@@ -64,9 +72,10 @@ fn seen(memory: Memory, s: State, byte: u8) -> u8
     ensures { result ≡ seen memory s byte }
 {
     if is_closed(memory, s) {
-        return Memory::CLOSED_BYTE;
+        Memory::CLOSED_BYTE
+    } else {
+        byte
     }
-    byte
 }
 
 // The byte of VRAM at the address modulo 8,192 of the present bank; FF from a closed VRAM. Refused by 1, 2.

@@ -1,5 +1,6 @@
 // The lent memory: the start, writes to VRAM and OAM, reads of OAM.
-// Lent memory comes buffer by buffer, and in no struct: `&` and `&mut` tell of each what a call may do with it.
+// Lent memory comes buffer by buffer, and in no struct: `&` and `&mut` tell of each what a call may do with it. Its lengths, a bank and an
+// address in OAM stand in clauses: docs/PROMISES.md names these functions, and a type would ask more of who calls them.
 #![tactic(auto)]
 
 ghost use Rattle.std.specs.Prelude.{◌≡◌, ◌<◌, ◌≤◌, ◌%◌, length};
@@ -19,10 +20,7 @@ use state::{Beam, Fetcher, Palettes, Pipe, Registers, State};
 fn in_colour(machine: Machine) -> bool
     ensures { result ≡ in_colour machine }
 {
-    if machine.dmg {
-        return false;
-    }
-    machine.cgb
+    !machine.dmg && machine.cgb
 }
 
 fn fresh_registers(cgb: bool) -> Registers
@@ -51,32 +49,32 @@ fn fresh_palettes(cgb: bool) -> Palettes
 {
     let fresh = PaletteSet::fresh();
     if cgb {
-        return Palettes {
+        Palettes {
             bg: fresh,
             obj: fresh,
-        };
+        }
+    } else {
+        let greys = colors::grey_palette();
+        let bg = fresh.set_palette(0, greys);
+        Palettes {
+            bg,
+            obj: bg.set_palette(1, greys),
+        }
     }
-    let greys = colors::grey_palette();
-    let bg = fresh.set_palette(0, greys);
-    let obj = bg.set_palette(1, greys);
-    Palettes { bg, obj }
 }
 
 fn fresh_pipe() -> Pipe
     ensures { result ≡ fresh_pipe }
 {
-    let fetcher = Fetcher {
-        delay: 0,
-        column: 0,
-        row: [0; 8],
-        waiting: None,
-    };
-    let bg = BgFifo::fresh();
-    let obj = SpriteFifo::fresh();
     Pipe {
-        fetcher,
-        bg,
-        obj,
+        fetcher: Fetcher {
+            delay: 0,
+            column: 0,
+            row: [0; 8],
+            waiting: None,
+        },
+        bg: BgFifo::fresh(),
+        obj: SpriteFifo::fresh(),
         window: false,
         wrow: 0,
         discard: 0,
@@ -104,19 +102,16 @@ pub fn fresh_state(machine: Machine) -> State
     ensures { result ≡ fresh_state machine }
 {
     let cgb = in_colour(machine);
-    let regs = fresh_registers(cgb);
-    let palettes = fresh_palettes(cgb);
-    let slots = sprite::blank();
-    let selection = Selection { count: 0, slots };
-    let pipe = fresh_pipe();
-    let beam = fresh_beam();
     State {
         machine,
-        regs,
-        palettes,
-        selection,
-        pipe,
-        beam,
+        regs: fresh_registers(cgb),
+        palettes: fresh_palettes(cgb),
+        selection: Selection {
+            count: 0,
+            slots: sprite::blank(),
+        },
+        pipe: fresh_pipe(),
+        beam: fresh_beam(),
     }
 }
 
@@ -138,9 +133,7 @@ pub fn write_vram(vram: &mut [u8], bank: u8, address: u16, value: u8)
     requires { (length vram.old ≡ vram_bytes) × (bank ≤ 1) }
     ensures { vram.new ≡ vram_written vram.old bank address value }
 {
-    let at = Machine::BANK_BYTES as usize * bank as usize
-        + (address % Machine::BANK_BYTES) as usize;
-    vram[at] = value;
+    vram[Machine::vram_place(bank, address)] = value;
 }
 
 // Stores a byte of OAM at the low byte of an address.
@@ -148,7 +141,7 @@ pub fn write_oam(oam: &mut [u8], address: u16, value: u8)
     requires { (length oam.old ≡ oam_bytes) × (address % 256 < oam_bytes) }
     ensures { oam.new ≡ oam_written oam.old address value }
 {
-    let at = (address % 256) as usize;
+    let at = Machine::oam_place(address);
     oam[at] = value;
 }
 
@@ -157,5 +150,5 @@ pub fn read_oam(oam: &[u8], address: u16) -> u8
     requires { (length oam.now ≡ oam_bytes) × (address % 256 < oam_bytes) }
     ensures { result ≡ oam_read oam.now address }
 {
-    oam[(address % 256) as usize]
+    oam[Machine::oam_place(address)]
 }

@@ -10,15 +10,6 @@ use Rattle.state.specs.declared.Registers.{Registers}
 use Rattle.state.specs.declared.Pipe.{Pipe}
 use Rattle.state.specs.declared.Beam.{Beam}
 use Rattle.state.specs.declared.State.{State}
-use Rattle.modes.specs.declared.Mode.{Mode}
-use Rattle.modes.specs.declared.Mode.TheVariants.{HBlank, VBlank, Search, Draw}
-
--- the number of a mode
-abbrev pub mode_number : Mode → ℕ
-mode_number HBlank = 0
-mode_number VBlank = 1
-mode_number Search = 2
-mode_number Draw = 3
 
 -- at a line and a cycle
 abbrev pub stands : Beam → ℕ → ℕ → Bool

@@ -1,37 +1,17 @@
 // The modes of a step: which begins, the STAT level by the mode held, the search of a line, and the comparison of LY.
+// That STAT's bit 7 is 0, and OAM's length, stand in clauses and in no type: docs/PROMISES.md names these functions, a type would ask more of
+// who calls them, and `Fine` (`order`) has STAT's bound of a whole state.
 #![tactic(auto)]
 
 ghost use Rattle.std.specs.Prelude.{◌≡◌, ◌<◌, length};
+ghost use Rattle.hardware.specs.Modes.{mode_number};
 ghost use Rattle.hardware.specs.Tables.{oam_bytes};
-ghost use Rattle.state.specs.With.{mode_of, with_mode, with_coincidence};
-ghost use Rattle.modes.specs.Modes.{mode_number, stands, begins, scans, renders, in_mode, rendering, resting, entered, searched};
+ghost use Rattle.state.specs.With.{with_coincidence};
+ghost use Rattle.modes.specs.Modes.{stands, begins, scans, renders, in_mode, rendering, resting, entered, searched};
 ghost use Rattle.modes.specs.Modes.{rest_level, scan_asks, scan_level, mode_level, early_level, level_of, compared_registers};
 
-use hardware::Machine;
+use hardware::{Machine, Mode};
 use state::{Beam, Pipe, Registers, State};
-
-// The modes, in the order of their numbers in STAT.
-#[derive(Clone, Copy, PartialEq, Eq)]
-enum Mode {
-    HBlank,
-    VBlank,
-    Search,
-    Draw,
-}
-
-impl Mode {
-    // The mode that STAT holds.
-    fn of(stat: u8) -> Self
-        ensures { mode_number result ≡ mode_of stat }
-    {
-        match stat % 4 {
-            0 => Mode::HBlank,
-            1 => Mode::VBlank,
-            2 => Mode::Search,
-            _ => Mode::Draw,
-        }
-    }
-}
 
 // Whether the beam stands at a line and a cycle.
 pub fn stands_at(b: Beam, line: u8, cycle: u16) -> bool
@@ -52,7 +32,7 @@ pub fn can_begin(b: Beam) -> bool
 fn does_scan(b: Beam) -> bool
     ensures { result ≡ scans b }
 {
-    (b.line as usize) < Machine::HEIGHT && b.cycle == 0 || stands_at(b, 0, 4) && !b.turned
+    usize::from(b.line) < Machine::HEIGHT && b.cycle == 0 || stands_at(b, 0, 4) && !b.turned
 }
 
 // Whether mode 3 begins.
@@ -60,25 +40,15 @@ fn does_scan(b: Beam) -> bool
 fn does_render(b: Beam) -> bool
     ensures { result ≡ renders b }
 {
-    (b.line as usize) < Machine::HEIGHT && b.cycle == 80
-}
-
-// STAT with another mode.
-fn with_mode(stat: u8, mode: Mode) -> u8
-    requires { stat < 128 }
-    ensures { result ≡ with_mode stat (mode_number mode) }
-{
-    stat / 4 * 4 + mode as u8
+    usize::from(b.line) < Machine::HEIGHT && b.cycle == 80
 }
 
 // The state with a mode, a pipe and a mode 3 end.
 fn in_mode(s: State, mode: Mode, p: Pipe, end: u16) -> State
-    requires { s.regs.stat < 128 }
     ensures { result ≡ in_mode s (mode_number mode) p end }
 {
-    let stat = with_mode(s.regs.stat, mode);
     let mut n = s;
-    n.regs.stat = stat;
+    n.regs.stat = mode.put_in(s.regs.stat);
     n.pipe = p;
     n.beam.end = end;
     n
@@ -98,15 +68,12 @@ fn start_rendering(scx: u8, p: Pipe) -> Pipe
 fn start_resting(p: Pipe) -> Pipe
     ensures { result ≡ resting p }
 {
-    let mut n = p;
-    n.wrow = 0;
-    n
+    Pipe { wrow: 0, ..p }
 }
 
 // The state in the mode that begins here, if one does.
 #[tactic(auto, unfolding(crate::specs::Modes::entered))]
 pub fn enter_mode(s: State) -> State
-    requires { s.regs.stat < 128 }
     ensures { result ≡ entered s }
 {
     if does_scan(s.beam) {
@@ -167,11 +134,11 @@ pub fn search(oam: &[u8], s: State) -> State
     if Mode::of(s.regs.stat) != Mode::Search || s.beam.cycle != 4 {
         return s;
     }
-    let slots = s.selection.slots;
-    let selection = sprite::select(oam, s.beam.line, pixel::tall_of(s.regs.lcdc), slots);
-    let mut n = s;
-    n.selection = selection;
-    n
+    let tall = pixel::tall_of(s.regs.lcdc);
+    State {
+        selection: sprite::select(oam, s.beam.line, tall, s.selection.slots),
+        ..s
+    }
 }
 
 // What joins the level at (144,0) where the device is not DMG.
@@ -207,12 +174,10 @@ pub fn compare(r: Registers, b: Beam) -> Registers
     requires { r.stat < 128 }
     ensures { result ≡ compared_registers r b }
 {
-    let stat = with_coincidence(r.stat, r.ly == r.lyc);
     let mut n = r;
-    n.stat = stat;
+    n.stat = with_coincidence(r.stat, r.ly == r.lyc);
     if stands_at(b, Machine::LAST_LINE, 4) {
         n.ly = 0;
-        return n;
     }
     n
 }

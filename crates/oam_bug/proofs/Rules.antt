@@ -7,7 +7,7 @@ use lib.Dec.{eqb}
 use lib.ListN.{length}
 use Rattle.logic.proofs.Tests.{by_test}
 use Rattle.oam_bug.specs.Corruption.{write_corrupted, read_corrupted, read_write_corrupted}
-use Rattle.oam_bug.specs.Kinds.{is_kind, kind_number, corrupted}
+use Rattle.oam_bug.specs.Kinds.{is_kind, number_of_kind, corrupted}
 use Rattle.oam_bug.specs.declared.Kind.{Kind}
 use Rattle.oam_bug.specs.declared.Kind.TheVariants.{Write, Read, ReadWrite}
 use Rattle.oam_bug.proofs.Rows.{AsLong, length_write, length_read, length_read_write}
@@ -26,7 +26,7 @@ pub two_by_read_write : By 2 read_write_corrupted
 two_by_read_write oam r = refl
 
 -- the number of a kind is one that there is
-pub number_known : (kind : Kind) → is_kind (kind_number kind) ≡ true
+pub number_known : (kind : Kind) → is_kind (number_of_kind kind) ≡ true
 number_known Write = refl
 number_known Read = refl
 number_known ReadWrite = refl

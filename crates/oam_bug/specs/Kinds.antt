@@ -10,14 +10,14 @@ abbrev pub is_kind : ℕ → Bool
 is_kind kind = leb kind 2
 
 -- the number of a kind
-abbrev pub kind_number : Kind → ℕ
-kind_number Write = 0
-kind_number Read = 1
-kind_number ReadWrite = 2
+abbrev pub number_of_kind : Kind → ℕ
+number_of_kind Write = 0
+number_of_kind Read = 1
+number_of_kind ReadWrite = 2
 
 -- the kind of a number, or that there is none of that number
 abbrev pub Numbers : ℕ → Result Kind UnknownKind → Type 0
-Numbers number r = MatchResult r (λ kind. kind_number kind ≡ number) (λ none. is_kind number ≡ false)
+Numbers number r = MatchResult r (λ kind. number_of_kind kind ≡ number) (λ none. is_kind number ≡ false)
 
 -- what an access of a kind does at row r; there are no others, which would do nothing
 abbrev pub corrupted : ℕ → List ℕ → ℕ → List ℕ

@@ -7,8 +7,8 @@ use Rattle.colors.specs.declared.PaletteSet.{PaletteSet}
 use Rattle.sprite.specs.declared.Selection.{Selection}
 use Rattle.fifo.specs.Background.{bg_queued}
 use Rattle.fifo.specs.Sprites.{sprite_queued}
-use Rattle.fifo.specs.declared.BgFifo.{BgFifo}
-use Rattle.fifo.specs.declared.SpriteFifo.{SpriteFifo}
+use Rattle.fifo.specs.Background.{BgFifo}
+use Rattle.fifo.specs.Sprites.{SpriteFifo}
 use Rattle.state.specs.With.{mode_of}
 use Rattle.state.specs.declared.Registers.{Registers}
 use Rattle.state.specs.declared.Palettes.{Palettes}

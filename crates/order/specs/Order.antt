@@ -7,9 +7,9 @@ use Rattle.sprite.specs.declared.SelectedSprite.{SelectedSprite}
 use Rattle.logic.specs.Every.{every}
 use Rattle.fifo.specs.Background.{bg_queued}
 use Rattle.fifo.specs.Sprites.{sprite_queued}
-use Rattle.fifo.specs.declared.BgFifo.{BgFifo}
+use Rattle.fifo.specs.Background.{BgFifo}
 use Rattle.fifo.specs.declared.BgFifoPixel.{BgFifoPixel}
-use Rattle.fifo.specs.declared.SpriteFifo.{SpriteFifo}
+use Rattle.fifo.specs.Sprites.{SpriteFifo}
 use Rattle.fifo.specs.declared.SpriteFifoPixel.{SpriteFifoPixel}
 use Rattle.state.specs.declared.Registers.{Registers}
 use Rattle.state.specs.declared.Palettes.{Palettes}

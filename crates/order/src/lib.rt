@@ -6,7 +6,7 @@ ghost use Rattle.order.specs.Order.{registers_order, palettes_order, row_order, 
 ghost use Rattle.order.specs.Order.{selection_order, beam_order, mode_order, in_order, Judged};
 
 use fifo::{BgFifo, SpriteFifo, SpriteFifoPixel};
-use hardware::Machine;
+use hardware::{Machine, Mode};
 use sprite::Selection;
 use state::{Beam, Fetcher, Palettes, Registers, State};
 
@@ -35,24 +35,22 @@ pub fn row_in_order(row: [u8; 8]) -> bool
 pub fn fetcher_in_order(f: Fetcher) -> bool
     ensures { result ≡ fetcher_order f }
 {
-    if f.delay > 8 {
-        return false;
-    }
-    f.waiting.is_none() || row_in_order(f.row)
+    f.delay <= 8 && (f.waiting.is_none() || row_in_order(f.row))
 }
 
-// The background queue: its length and its pixels.
+// The background queue: its length and its pixels. Not one function over `Fifo<P, N>` and a test with `sprite_in_order`: the clauses
+// on N, on the test and on the closure that calls it are longer than both.
 pub fn bg_in_order(q: BgFifo) -> bool
     ensures { result ≡ bg_order q }
 {
-    q.len <= 16 && (0..q.len as usize).all(|k| q.pixel(k).color <= 3)
+    q.len <= 16 && (0..usize::from(q.len)).all(|k| q.pixel(k).color <= 3)
 }
 
 // The sprite queue: its length and its pixels.
 pub fn sprite_in_order(q: SpriteFifo) -> bool
     ensures { result ≡ sprite_order q }
 {
-    q.len <= 8 && (0..q.len as usize).all(|k| sprite_pixel_in_order(q.pixel(k)))
+    q.len <= 8 && (0..usize::from(q.len)).all(|k| sprite_pixel_in_order(q.pixel(k)))
 }
 
 // A queued sprite pixel: its colour, its palette selector and its index.
@@ -66,10 +64,7 @@ fn sprite_pixel_in_order(p: SpriteFifoPixel) -> bool
 pub fn selection_in_order(s: Selection) -> bool
     ensures { result ≡ selection_order s }
 {
-    s.count <= 10
-        && s.slots[..s.count as usize]
-            .iter()
-            .all(|slot| slot.index <= 39)
+    s.count <= 10 && s.entries().iter().all(|slot| slot.index <= 39)
 }
 
 // Cycle, line, LCD x and the picture shown.
@@ -79,7 +74,7 @@ pub fn beam_in_order(b: Beam) -> bool
     b.cycle % 2 == 0
         && b.cycle < Machine::LINE_CYCLES
         && b.line < Machine::FRAME_LINES
-        && (b.x as usize) < Machine::WIDTH
+        && usize::from(b.x) < Machine::WIDTH
         && b.shown <= 1
 }
 
@@ -87,7 +82,7 @@ pub fn beam_in_order(b: Beam) -> bool
 pub fn mode_in_order(stat: u8, line: u8) -> bool
     ensures { result ≡ mode_order stat line }
 {
-    stat % 4 != 3 || (line as usize) < Machine::HEIGHT
+    Mode::of(stat) != Mode::Draw || usize::from(line) < Machine::HEIGHT
 }
 
 // Every clause of 01, one after the other.

@@ -7,7 +7,7 @@ ghost use Rattle.picks.specs.Request.{answer_to};
 
 use hardware::Machine;
 use refusals::Refusal;
-use sprite::{SelectedSprite, Selection, Sprite};
+use sprite::{SelectedSprite, Selection};
 use std::io;
 use std::io::{Read, Write};
 use wire::NoAnswer;
@@ -24,8 +24,7 @@ fn answer(request: &[u8]) -> Result<Selection, Refusal>
 
 // One picked entry as a line: its index, y, x, tile and flags. Each function that prints stops at the first write that fails.
 fn print_slot(out: &mut impl Write, slot: &SelectedSprite) -> io::Result<()> {
-    let Sprite { y, x, tile, flags } = slot.sprite;
-    let index = slot.index;
+    let [index, y, x, tile, flags] = slot.to_bytes();
     writeln!(out, "{index} {y} {x} {tile} {flags}")
 }
 
@@ -33,13 +32,13 @@ fn print_slot(out: &mut impl Write, slot: &SelectedSprite) -> io::Result<()> {
 fn print_selection(out: &mut impl Write, selection: &Selection) -> io::Result<()> {
     let count = selection.count;
     writeln!(out, "picked {count}")?;
-    for slot in selection.slots.iter().take(usize::from(count)) {
+    for slot in selection.entries() {
         print_slot(out, slot)?;
     }
     Ok(())
 }
 
-// The number of a refusal, or the picks.
+// The number of a refusal, or the picks. `sprite_lists` prints a refusal by the same two lines: no crate under both has a refusal and an output.
 fn print_answer(out: &mut impl Write, answer: Result<Selection, Refusal>) -> io::Result<()> {
     match answer {
         Ok(selection) => print_selection(out, &selection),

@@ -12,8 +12,8 @@ use Rattle.bg_attribs.specs.declared.BgAttribute.{BgAttribute}
 use Rattle.colors.specs.Palettes.{palette}
 use Rattle.fifo.specs.Background.{bg_cleared, bg_row, bg_inked}
 use Rattle.fifo.specs.Sprites.{sprite_cleared}
-use Rattle.fifo.specs.declared.BgFifo.{BgFifo}
-use Rattle.fifo.specs.declared.SpriteFifo.{SpriteFifo}
+use Rattle.fifo.specs.Background.{BgFifo}
+use Rattle.fifo.specs.Sprites.{SpriteFifo}
 use Rattle.fifo.proofs.Background.{bg_cleared_every, bg_pushed_every, bg_pushed_slots, bg_pushed_len, bg_row_length}
 use Rattle.fifo.proofs.Sprites.{sprite_cleared_every}
 use Rattle.tiles.proofs.Colours.{Colours, fetched_colours}

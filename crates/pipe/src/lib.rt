@@ -1,4 +1,4 @@
-// The pipe of a draw: the entry to the window, the fetcher, and the row that goes into the background queue.
+// The pipe of a draw: the entry to the window, the fetcher, and the row that goes into the background queue. VRAM comes as in `tiles`.
 #![tactic(auto)]
 
 ghost use Rattle.std.specs.Prelude.{◌≡◌, ◌≤◌, length};
@@ -15,60 +15,42 @@ use tiles::{Fetch, Fetched};
 fn is_reached(x: u8, wx: u8) -> bool
     ensures { result ≡ reached x wx }
 {
-    if x == wrap::wrapping_sub(wx, 7) {
-        return true;
-    }
-    if x == 0 {
-        return wx < 7;
-    }
-    false
+    x == wrap::wrapping_sub(wx, 7) || x == 0 && wx < 7
 }
 
 // Whether the window is open on a line.
 pub fn is_open(r: Registers, line: u8) -> bool
     ensures { result ≡ opened r line }
 {
-    if !wrap::bit(r.lcdc, 5) {
-        return false;
-    }
-    r.wy <= line
+    wrap::bit(r.lcdc, 5) && r.wy <= line
 }
 
 // Whether an open window is entered at LCD x.
+#[tactic(auto, unfolding(crate::specs::Window::enters))]
 pub fn does_enter(allowed: bool, inside: bool, x: u8, wx: u8) -> bool
     ensures { result ≡ enters allowed inside x wx }
 {
-    if !allowed {
-        return false;
-    }
-    if inside {
-        return false;
-    }
-    is_reached(x, wx)
+    allowed && !inside && is_reached(x, wx)
 }
 
 // The discard at the entry to the window: 7 - WX, on purpose modulo 256.
 fn discard_at(wx: u8, discard: u8) -> u8
     ensures { result ≡ discard_at wx discard }
 {
-    if wx < 7 {
-        return wrap::wrapping_sub(7, wx);
+    if wx < 7 || discard != 0 {
+        wrap::wrapping_sub(7, wx)
+    } else {
+        discard
     }
-    if discard != 0 {
-        return wrap::wrapping_sub(7, wx);
-    }
-    discard
 }
 
 // The pipe with both queues empty and fetch column 0.
 pub fn empty(p: Pipe) -> Pipe
     ensures { result ≡ emptied p }
 {
-    let bg = p.bg.clear();
-    let obj = p.obj.clear();
     let mut n = p;
-    n.bg = bg;
-    n.obj = obj;
+    n.bg.clear();
+    n.obj.clear();
     n.fetcher.column = 0;
     n
 }
@@ -84,27 +66,29 @@ fn enter(wx: u8, p: Pipe) -> Pipe
 }
 
 // The pipe after the window was tried at LCD x, open or not.
+#[tactic(auto, unfolding(crate::specs::Window::windowed))]
 pub fn try_enter_window(allowed: bool, x: u8, wx: u8, p: Pipe) -> Pipe
     ensures { result ≡ windowed allowed x wx p }
 {
     if does_enter(allowed, p.window, x, wx) {
-        return enter(wx, p);
+        enter(wx, p)
+    } else {
+        p
     }
-    p
 }
 
 // The fetcher once a row was fetched: delay 8, the column up by one, modulo 256.
 fn take_row(f: Fetcher, t: Fetched) -> Fetcher
     ensures { result ≡ took_row f t }
 {
+    // By a local: an array that goes straight from one field to another gets no proof.
     let row = t.row;
-    let column = wrap::wrapping_sub(f.column, 255);
-    let attribute = t.attribute;
     Fetcher {
         delay: 8,
-        column,
+        // docs/01-scope.md: the one helper that wraps serves fetch column and window row
+        column: wrap::wrapping_sub(f.column, 255),
         row,
-        waiting: Some(attribute),
+        waiting: Some(t.attribute),
     }
 }
 
@@ -115,8 +99,7 @@ pub fn cycle_fetcher(vram: &[u8], r: Registers, line: u8, p: Pipe) -> Pipe
 {
     let mut n = p;
     if p.fetcher.delay > 1 {
-        let delay = p.fetcher.delay - 1;
-        n.fetcher.delay = delay;
+        n.fetcher.delay -= 1;
         return n;
     }
     let fetch = Fetch {
@@ -131,8 +114,7 @@ pub fn cycle_fetcher(vram: &[u8], r: Registers, line: u8, p: Pipe) -> Pipe
     };
     // the row's source goes no further
     let fetched = tiles::fetch_bg(vram, fetch);
-    let fetcher = take_row(p.fetcher, fetched.tile);
-    n.fetcher = fetcher;
+    n.fetcher = take_row(p.fetcher, fetched.tile);
     n
 }
 
@@ -141,23 +123,15 @@ fn push_row(palettes: PaletteSet, t: BgAttribute, p: Pipe) -> Pipe
     requires { p.bg.len ≤ 8 }
     ensures { result ≡ row_pushed palettes.bytes t p }
 {
-    let f = p.fetcher;
-    let row = f.row;
-    let palette = palettes.get_palette(t.palette());
-    let bg = p.bg.push(row, palette, t.priority());
-    let fetcher = Fetcher {
-        delay: f.delay,
-        column: f.column,
-        row,
-        waiting: None,
-    };
     let mut n = p;
-    n.fetcher = fetcher;
-    n.bg = bg;
+    n.fetcher.waiting = None;
+    let palette = palettes.get_palette(t.palette());
+    n.bg.push(p.fetcher.row, palette, t.priority());
     n
 }
 
 // At most 8 queued: what waits goes in.
+#[tactic(auto, unfolding(crate::specs::Fetching::fed))]
 pub fn feed(palettes: PaletteSet, p: Pipe) -> Pipe
     ensures { result ≡ fed palettes.bytes p }
 {

@@ -18,7 +18,7 @@ use Rattle.sprite.specs.declared.SelectedSprite.{SelectedSprite}
 use Rattle.sprite.specs.declared.Selection.{Selection}
 use Rattle.fifo.specs.Sprites.{sprite_queued, inked, inked_row, sprite_pushed, sprite_popped}
 use Rattle.fifo.specs.declared.BgFifoPixel.{BgFifoPixel}
-use Rattle.fifo.specs.declared.SpriteFifo.{SpriteFifo}
+use Rattle.fifo.specs.Sprites.{SpriteFifo}
 use Rattle.fifo.specs.declared.SpriteFifoPixel.{SpriteFifoPixel}
 use Rattle.fifo.proofs.Sprites.{inked_row_length, sprite_pushed_slots, sprite_pushed_every, sprite_pixel_every}
 use Rattle.tiles.specs.Objects.{starts_at, sprite_colours}

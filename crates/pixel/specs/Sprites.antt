@@ -7,7 +7,7 @@ use Rattle.sprite.specs.Oam.{grey_palette, colour_palette, behind}
 use Rattle.sprite.specs.declared.SelectedSprite.{SelectedSprite}
 use Rattle.sprite.specs.declared.Selection.{Selection}
 use Rattle.fifo.specs.Sprites.{inked_row, sprite_pushed}
-use Rattle.fifo.specs.declared.SpriteFifo.{SpriteFifo}
+use Rattle.fifo.specs.Sprites.{SpriteFifo}
 use Rattle.fifo.specs.declared.SpriteFifoPixel.{SpriteFifoPixel}
 use Rattle.tiles.specs.Objects.{starts_at, sprite_colours}
 use Rattle.state.specs.declared.Registers.{Registers}

@@ -1,13 +1,16 @@
 // One pixel: the sprites that start at a place, and the mixer of background and sprite.
+// VRAM's length, the counts of what is queued and selected, and a colour below 4 stand in clauses and in no type: docs/PROMISES.md names
+// `add_sprites` and `mixer`, and a type would ask more of who calls them.
 #![tactic(auto)]
 
 ghost use Rattle.std.specs.Prelude.{◌≡◌, ◌<◌, ◌≤◌, length};
 ghost use Rattle.hardware.specs.Tables.{vram_bytes};
+ghost use Rattle.colors.specs.Palettes.{colour_at};
 ghost use Rattle.pixel.specs.Sprites.{tall_of, selector, ink_of, none_starts, sprite_added, sprites_added};
 ghost use Rattle.pixel.specs.Mixer.{wins, winner, passed, bg_colour, sprite_colour, winner_colour, seen};
 ghost use Rattle.pixel.specs.Mixer.{Coloured};
 
-use colors::{Color, PaletteSet};
+use colors::{Color, ColorPalette, PaletteSet};
 use fifo::{BgFifoPixel, SpriteFifo, SpriteFifoPixel};
 use sprite::{SelectedSprite, Selection};
 use state::{Registers, Spot};
@@ -23,11 +26,10 @@ pub fn tall_of(lcdc: u8) -> u8
 fn selector_of(cgb: bool, s: SelectedSprite) -> u8
     ensures { result ≡ selector cgb s.sprite.flags }
 {
-    let sprite = s.sprite;
     if cgb {
-        sprite.cgb_palette()
+        s.sprite.cgb_palette()
     } else {
-        sprite.dmg_palette()
+        s.sprite.dmg_palette()
     }
 }
 
@@ -35,14 +37,12 @@ fn selector_of(cgb: bool, s: SelectedSprite) -> u8
 fn ink_of(r: Registers, palettes: PaletteSet, s: SelectedSprite) -> SpriteFifoPixel
     ensures { result ≡ ink_of r palettes.bytes s }
 {
-    let sprite = s.sprite;
-    let palette = palettes.get_palette(selector_of(r.cgb, s));
     SpriteFifoPixel {
         color: 0,
-        palette,
-        obp: sprite.dmg_palette(),
+        palette: palettes.get_palette(selector_of(r.cgb, s)),
+        obp: s.sprite.dmg_palette(),
         index: s.index,
-        priority: sprite.bg_priority(),
+        priority: s.sprite.bg_priority(),
     }
 }
 
@@ -63,9 +63,9 @@ pub fn add_sprite(
     }
     // the row's source goes no further
     let row = tiles::sprite_colors(vram, s.sprite, at.line, tall_of(r.lcdc), at.x);
-    let colors = row.colors;
-    let ink = ink_of(r, palettes, s);
-    q.push(colors, ink, r.coord)
+    let mut queue = q;
+    queue.push(row.colors, ink_of(r, palettes, s), r.coord);
+    queue
 }
 
 // Whether no selected sprite starts at column x.
@@ -73,7 +73,7 @@ pub fn does_none_start(l: Selection, x: u8) -> bool
     requires { l.count ≤ 10 }
     ensures { result ≡ none_starts l x }
 {
-    l.slots[..l.count as usize]
+    l.entries()
         .iter()
         .all(|slot| !tiles::starts_at(slot.sprite, x))
 }
@@ -94,41 +94,30 @@ pub fn add_sprites(
         return q;
     }
     let mut queue = q;
-    for slot in &l.slots[..l.count as usize] {
+    for slot in l.entries() {
         queue = add_sprite(vram, r, palettes, at, queue, *slot);
     }
     queue
 }
 
 // Whether a sprite pixel is seen in front of a background pixel.
+#[tactic(auto, unfolding(crate::specs::Mixer::wins))]
 pub fn sprite_wins(r: Registers, b: BgFifoPixel, s: SpriteFifoPixel) -> bool
     ensures { result ≡ wins r b s }
 {
-    if s.color == 0 {
-        return false;
-    }
-    if r.cgb {
-        if !wrap::bit(r.lcdc, 0) {
-            return true;
-        }
-    }
-    if b.color == 0 {
-        return true;
-    }
-    if b.priority {
-        return false;
-    }
-    !s.priority
+    s.color != 0 && (r.cgb && !wrap::bit(r.lcdc, 0) || b.color == 0 || !b.priority && !s.priority)
 }
 
-// The sprite pixel that is seen in front of the background pixel, if one is. A pop of nothing falls back to the background.
+// The sprite pixel that is seen in front of the background pixel, if one is. A pop of nothing falls back to the background, by the
+// `let .. else` that docs/01-scope.md names.
+#[tactic(auto, unfolding(crate::specs::Mixer::winner))]
 pub fn decide(r: Registers, b: BgFifoPixel, pop: Option<SpriteFifoPixel>) -> Option<SpriteFifoPixel>
     ensures { result ≡ winner r b pop }
 {
     let Some(s) = pop else {
         return None;
     };
-    if sprite_wins(r, b, s) { Some(s) } else { None }
+    sprite_wins(r, b, s).then_some(s)
 }
 
 // A colour, passed by a palette byte outside colour mode.
@@ -137,9 +126,18 @@ fn pass(r: Registers, byte: u8, color: u8) -> u8
     ensures { result ≡ passed r byte color }
 {
     if r.cgb {
-        return color;
+        color
+    } else {
+        colors::shade_of(byte, color)
     }
-    colors::shade_of(byte, color)
+}
+
+// A colour of a palette, passed by a palette byte outside colour mode.
+fn color_by(r: Registers, byte: u8, palette: ColorPalette, color: u8) -> Color
+    requires { color < 4 }
+    ensures { result ≡ colour_at palette (passed r byte color) }
+{
+    palette.get_color(pass(r, byte, color))
 }
 
 // The colour of a background pixel.
@@ -147,8 +145,7 @@ fn bg_color(r: Registers, b: BgFifoPixel) -> Color
     requires { b.color < 4 }
     ensures { result ≡ bg_colour r b }
 {
-    let palette = b.palette;
-    palette.get_color(pass(r, r.bgp, b.color))
+    color_by(r, r.bgp, b.palette, b.color)
 }
 
 // The colour of a sprite pixel.
@@ -156,11 +153,8 @@ fn sprite_color(r: Registers, s: SpriteFifoPixel) -> Color
     requires { s.color < 4 }
     ensures { result ≡ sprite_colour r s }
 {
-    let palette = s.palette;
-    if s.obp == 0 {
-        return palette.get_color(pass(r, r.obp0, s.color));
-    }
-    palette.get_color(pass(r, r.obp1, s.color))
+    let byte = if s.obp == 0 { r.obp0 } else { r.obp1 };
+    color_by(r, byte, s.palette, s.color)
 }
 
 // The colour of what is seen.
@@ -179,6 +173,5 @@ pub fn mixer(r: Registers, b: BgFifoPixel, pop: Option<SpriteFifoPixel>) -> Colo
     requires { (b.color < 4) × Coloured pop }
     ensures { result ≡ seen r b pop }
 {
-    let w = decide(r, b, pop);
-    color_of(r, b, w)
+    color_of(r, b, decide(r, b, pop))
 }

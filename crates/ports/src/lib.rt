@@ -21,6 +21,8 @@ pub fn read_register(s: &State, address: u16) -> Result<u8, Refusal>
     Ok(registers::read_register(s.palettes, address))
 }
 
+// The two writes are alike to the eye alone: each is the terms of its call and one access, and they differ in both.
+
 // A VRAM write, at the address modulo 8,192 of the present bank. Refused by 1, 2.
 pub fn write_vram(s: &State, vram: &mut [u8], address: u16, value: u8) -> Result<(), Refusal>
     ensures { VramWrite s.now vram.old address value (answered result s.now) vram.new }
@@ -54,6 +56,7 @@ pub fn oam_bug(s: &State, oam: &mut [u8], kind: u8) -> Result<(), Refusal>
     ensures { OamBug kind s.now oam.old (answered result s.now) oam.new }
 {
     let kind = terms::kind(*s, oam, kind)?;
+    // by the number of the mode, which `corrupted_row` takes: to make a `Mode` of it and a number again would say no more
     let row = oam_bug::corrupted_row(s.regs.stat % 4, s.beam.cycle);
     oam_bug::corrupt(oam, row, kind);
     Ok(())

@@ -6,7 +6,6 @@ use Rattle.hardware.specs.Tables.{Tables}
 use Rattle.hardware.specs.declared.Machine.{Machine}
 use Rattle.lcd.specs.Pictures.{Pictures}
 use Rattle.std.specs.Prelude.{Result, Ok, Err}
-use Rattle.refusals.specs.Refused.{refusal_number}
 use Rattle.refusals.specs.declared.Refusal.{Refusal}
 use Rattle.refusals.proofs.Tells.{number_tells, answer_tells, unrefused}
 use Rattle.state.specs.declared.State.{State}

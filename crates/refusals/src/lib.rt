@@ -18,7 +18,7 @@ pub enum Refusal {
 }
 
 impl Refusal {
-    // The number in the table of refusals.
+    // The number in the table of refusals of docs/01-scope.md. By its own name, since `u8::from(why)` would say no more.
     pub fn number(self) -> u8
         ensures { result ≡ refusal_number self }
     {
@@ -32,6 +32,7 @@ impl Refusal {
     }
 }
 
+// As `bench` shows it of a capture's call: there 4 is of an address alone, since a kind is read by its name and nothing is picked.
 impl fmt::Display for Refusal {
     fn fmt<W: fmt::Write>(&self, f: &mut fmt::Formatter<W>) -> fmt::Result {
         f.write_str(match self {

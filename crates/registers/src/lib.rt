@@ -1,4 +1,5 @@
-// The registers: which can be written, what a write and a read do, blanking, and the colour flag.
+// The registers: which can be written, what a write and a read do, blanking, and the colour flag. What is asked of the palettes' indexes is one
+// clause, `PalettesFine`, and no type: a state can have one over 63, and is refused for it.
 // Lent memory comes buffer by buffer, and in no struct: `&` and `&mut` tell of each what a call may do with it.
 #![tactic(auto)]
 
@@ -11,6 +12,7 @@ ghost use Rattle.registers.specs.Write.{blanks, blanked_registers, blanked_beam,
 ghost use Rattle.registers.specs.Write.{readable, register_read, colour_set};
 
 use colors::PaletteSet;
+use hardware::Mode;
 use state::{Beam, Palettes, Registers, State};
 
 // A writable register: its address and the bits of a write that are kept. Fields without names, so that an entry of the table is one line.
@@ -37,7 +39,7 @@ const WRITABLE: [Writable; 16] = [
     Writable(0xFF6C, 0x01), // OPRI
 ];
 
-// The bits that a write to an address keeps; 0 where the address is not listed.
+// The bits that a write to an address keeps; 0 where the address is not listed, as the definition `kept_in` has it.
 pub fn kept_bits(address: u16) -> u8
     ensures { result ≡ kept_bits address }
 {
@@ -51,7 +53,7 @@ fn replaced<T: Copy>(here: bool, new: T, old: T) -> T
     if here { new } else { old }
 }
 
-// STAT after a write of its kept bits: the lower three stay.
+// STAT after a write of its kept bits: the lower three stay, where every other register is replaced.
 fn stat_after(here: bool, v: u8, stat: u8) -> u8
     requires { here ≡ true → v ≤ 0x78 }
     ensures { result ≡ cond here (stat % 8 + v) stat }
@@ -59,7 +61,7 @@ fn stat_after(here: bool, v: u8, stat: u8) -> u8
     if here { stat % 8 + v } else { stat }
 }
 
-// The registers after a write of kept bits: only the one addressed changes.
+// The registers after a write of kept bits: only the one addressed changes. A line a register: the table has addresses, and no field has one.
 pub fn write_registers(r: Registers, address: u16, v: u8) -> Registers
     requires { address ≡ 0xFF41 → v ≤ 0x78 }
     ensures { result ≡ registers_written r address v }
@@ -83,26 +85,29 @@ pub fn write_registers(r: Registers, address: u16, v: u8) -> Registers
 }
 
 // A palette set after a write to its index port or to the data port after it.
+#[tactic(auto, unfolding(crate::specs::Write::port_written))]
 pub fn write_port(p: PaletteSet, port: u16, address: u16, v: u8) -> PaletteSet
     requires { SetFine p × (port < 65535) }
     ensures { result ≡ port_written p port address v }
 {
+    let mut n = p;
     if address == port {
-        return p.after_write(false, v);
+        n.write_index(v);
+    } else if address == port + 1 {
+        n.write_color_data(v);
     }
-    if address == port + 1 {
-        return p.after_write(true, v);
-    }
-    p
+    n
 }
 
+// Both palette sets after a write.
 pub fn write_palettes(p: Palettes, address: u16, v: u8) -> Palettes
     requires { PalettesFine p }
     ensures { result ≡ palettes_written p address v }
 {
-    let bg = write_port(p.bg, 0xFF68, address, v);
-    let obj = write_port(p.obj, 0xFF6A, address, v);
-    Palettes { bg, obj }
+    Palettes {
+        bg: write_port(p.bg, 0xFF68, address, v),
+        obj: write_port(p.obj, 0xFF6A, address, v),
+    }
 }
 
 // Whether a write of kept bits switches the display off.
@@ -112,49 +117,51 @@ pub fn does_blank(r: Registers, address: u16, v: u8) -> bool
     address == 0xFF40 && wrap::bit(r.lcdc, 7) && !wrap::bit(v, 7)
 }
 
+// The registers with mode 0 and LY 0.
 fn blank_registers(r: Registers) -> Registers
     ensures { result ≡ blanked_registers r }
 {
-    let mut n = r;
-    n.stat = r.stat / 4 * 4;
-    n.ly = 0;
-    n
+    Registers {
+        stat: Mode::HBlank.put_in(r.stat),
+        ly: 0,
+        ..r
+    }
 }
 
+// The beam at cycle 4 of line 0, just turned on, with no place stored; LCD x stays.
 fn blank_beam(b: Beam) -> Beam
     ensures { result ≡ blanked_beam b }
 {
-    let mut n = b;
-    n.line = 0;
-    n.cycle = 4;
-    n.count = 0;
-    n.turned = true;
-    n.blanked = true;
-    n
+    Beam {
+        line: 0,
+        cycle: 4,
+        count: 0,
+        turned: true,
+        blanked: true,
+        ..b
+    }
 }
 
 // The state with the display switched off.
 fn blank_state(s: State) -> State
     ensures { result ≡ blanked_state s }
 {
-    let regs = blank_registers(s.regs);
-    let beam = blank_beam(s.beam);
-    let mut n = s;
-    n.regs = regs;
-    n.beam = beam;
-    n
+    State {
+        regs: blank_registers(s.regs),
+        beam: blank_beam(s.beam),
+        ..s
+    }
 }
 
 // The state after a write of kept bits.
+#[tactic(auto, unfolding(crate::specs::Write::state_written))]
 pub fn write_state(s: State, address: u16, v: u8) -> State
     requires { PalettesFine s.palettes × (address ≡ 0xFF41 → v ≤ 0x78) }
     ensures { result ≡ state_written s address v }
 {
-    let regs = write_registers(s.regs, address, v);
-    let palettes = write_palettes(s.palettes, address, v);
     let mut n = s;
-    n.regs = regs;
-    n.palettes = palettes;
+    n.regs = write_registers(s.regs, address, v);
+    n.palettes = write_palettes(s.palettes, address, v);
     if does_blank(s.regs, address, v) {
         return blank_state(n);
     }
@@ -168,23 +175,22 @@ pub fn write_register(s: State, a: &mut [u8], b: &mut [u8], address: u16, value:
         (pictures a.new b.new) }
 {
     let v = value & kept_bits(address);
-    let n = write_state(s, address, v);
     if does_blank(s.regs, address, v) {
         lcd::fill(a, 255);
         lcd::fill(b, 255);
-        return n;
     }
-    n
+    write_state(s, address, v)
 }
 
 // Whether a register can be read: FF68 to FF6B.
 pub fn is_readable(address: u16) -> bool
     ensures { result ≡ readable address }
 {
-    0xFF68 <= address && address <= 0xFF6B
+    (0xFF68..=0xFF6B).contains(&address)
 }
 
-// The value of a readable register.
+// The value of a readable register, by its address, as docs/01-scope.md names the ports: the table above is of those that can be written,
+// and tells no port from another.
 #[tactic(auto, unfolding(crate::specs::Write::register_read))]
 pub fn read_register(p: Palettes, address: u16) -> u8
     requires { PalettesFine p }

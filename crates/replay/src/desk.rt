@@ -1,6 +1,4 @@
 // What requests share, and the answer to any request: every call of the picture unit.
-ghost use Rattle.std.specs.Prelude.{◌≤◌, length};
-
 use hardware::Machine;
 use ppu::Refused;
 use refusals::Refusal;
@@ -22,13 +20,6 @@ pub struct Desk {
 // The answer to a request whose call is not refused.
 type Answer = Result<[u8; 16], Refusal>;
 
-// An answer that begins with these bytes.
-fn told(bytes: &[u8]) -> [u8; 16]
-    requires { length bytes.now ≤ 16 }
-{
-    wire::padded(bytes)
-}
-
 // A digest, in the second half of an answer.
 fn digested(digest: Digest) -> [u8; 16] {
     let mut answer = [0; 16];
@@ -41,7 +32,7 @@ fn address_of(q: [u8; 8]) -> u16 {
     u16::from_le_bytes([q[1], q[2]])
 }
 
-// The picture that is not shown.
+// The picture that is not shown, by the number that docs/01-scope.md has for the shown one.
 fn hidden<'a>(shown: u8, a: &'a [u8], b: &'a [u8]) -> &'a [u8] {
     if shown == 0 { b } else { a }
 }
@@ -58,14 +49,13 @@ impl Desk {
         let mut a = [0; Machine::PICTURE_BYTES];
         let mut b = [0; Machine::PICTURE_BYTES];
         let started = ppu::start(machine, &mut vram, &mut oam, &mut a, &mut b);
-        let slots = sprite::blank();
         Desk {
             state: started.unwrap_or_else(|refused| refused.state),
             vram,
             oam,
             a,
             b,
-            slots,
+            slots: sprite::blank(),
         }
     }
 
@@ -102,7 +92,7 @@ impl Desk {
             cycles,
         )?;
         let [low, high] = r.count.to_le_bytes();
-        Ok(told(&[
+        Ok(wire::padded(&[
             0,
             r.requests,
             r.mode,
@@ -129,7 +119,7 @@ impl Desk {
 
     fn read_register(&self, q: [u8; 8]) -> Answer {
         let value = ppu::read_register(&self.state, address_of(q))?;
-        Ok(told(&[0, value]))
+        Ok(wire::padded(&[0, value]))
     }
 
     fn write_vram(&mut self, q: [u8; 8]) -> Answer {
@@ -149,7 +139,7 @@ impl Desk {
 
     fn locked_read_vram(&self, q: [u8; 8]) -> Answer {
         let value = ppu::locked_read_vram(&self.state, &self.vram, address_of(q))?;
-        Ok(told(&[0, value]))
+        Ok(wire::padded(&[0, value]))
     }
 
     fn locked_write_oam(&mut self, q: [u8; 8]) -> Answer {
@@ -159,7 +149,7 @@ impl Desk {
 
     fn locked_read_oam(&self, q: [u8; 8]) -> Answer {
         let value = ppu::locked_read_oam(&self.state, &self.oam, address_of(q))?;
-        Ok(told(&[0, value]))
+        Ok(wire::padded(&[0, value]))
     }
 
     fn set_colour(&mut self, flag: bool) -> Answer {
@@ -167,7 +157,7 @@ impl Desk {
         Ok([0; 16])
     }
 
-    // A corruption of OAM.
+    // A corruption of OAM, by its kind's number: a request can have any, and one of no kind is refused.
     fn oam_bug(&mut self, kind: u8) -> Answer {
         ppu::oam_bug(&self.state, &mut self.oam, kind)?;
         Ok([0; 16])
@@ -182,33 +172,34 @@ impl Desk {
             .bytes(&self.vram)
     }
 
-    // A pick: its slots are kept, empty ones where it is refused.
+    // A pick: its slots are kept, empty ones where it is refused. `replay_leaves` has one of its own, of the leaf and not of the face.
     fn pick(&mut self, line: u8, tall: u8) -> Answer {
         self.slots = sprite::blank();
         let selection = ppu::pick(&self.oam, line, tall)?;
+        // By a local: an array that goes straight from one field to another gets no proof.
         let slots = selection.slots;
         self.slots = slots;
-        Ok(told(&[0, selection.count]))
+        Ok(wire::padded(&[0, selection.count]))
     }
 
     // Slot k of the last pick.
     fn slot(&self, k: u8) -> [u8; 16] {
         match self.slots.get(usize::from(k)) {
             Some(slot) => {
-                let [index, y, x, tile, flags] = canon::five(slot);
-                told(&[0, index, y, x, tile, flags])
+                let [index, y, x, tile, flags] = slot.to_bytes();
+                wire::padded(&[0, index, y, x, tile, flags])
             }
-            None => told(&[255]),
+            None => wire::padded(&[255]),
         }
     }
 
-    // Where the beam stands, the mode, and the cycle at which mode 3 ended.
+    // Where the beam stands, the mode by its number, which the answer has, and the cycle at which mode 3 ended.
     fn look(&self) -> [u8; 16] {
         let beam = self.state.beam;
         let [cycle_low, cycle_high] = beam.cycle.to_le_bytes();
         let [end_low, end_high] = beam.end.to_le_bytes();
         let mode = self.state.regs.stat % 4;
-        told(&[
+        wire::padded(&[
             0, beam.line, cycle_low, cycle_high, beam.x, mode, end_low, end_high,
         ])
     }
@@ -234,7 +225,7 @@ impl Desk {
             17 => self.locked_read_vram(q),
             18 => self.locked_write_oam(q),
             19 => self.locked_read_oam(q),
-            _ => Ok(told(&[255])),
+            _ => Ok(wire::padded(&[255])),
         }
     }
 }
@@ -242,9 +233,7 @@ impl Desk {
 impl Answers<16> for Desk {
     // A refused call answers its number.
     fn answer(&mut self, q: [u8; 8]) -> [u8; 16] {
-        match self.call(q) {
-            Ok(answer) => answer,
-            Err(why) => told(&[why.number()]),
-        }
+        self.call(q)
+            .unwrap_or_else(|why| wire::padded(&[why.number()]))
     }
 }

@@ -5,6 +5,8 @@ mod desk;
 
 use desk::Desk;
 
+// As in `replay_leaves`, with a desk and a name of its own: what the two share is `answer_list` and `say`.
+//
 // The exit status tells nothing: why the answers end before the list does is said on standard error.
 fn main(rt: HostRuntime) {
     let mut desk = Desk::fresh();

@@ -33,33 +33,27 @@ impl Bench {
                 *byte = value;
                 [0; 8]
             }
-            None => plain::told(&[4]),
+            None => wire::padded(&[4]),
         }
     }
 
-    // A pick: its slots are kept, empty ones where it is refused.
+    // A pick: its slots are kept, empty ones where it is refused. `replay` has one of its own, of the face and not of the leaf.
     fn pick(&mut self, line: u8, tall: u8) -> [u8; 8] {
         self.slots = sprite::blank();
         match sprite::pick(&self.oam, line, tall) {
             Ok(selection) => {
+                // By a local: an array that goes straight from one field to another gets no proof.
                 let slots = selection.slots;
                 self.slots = slots;
-                plain::told(&[0, selection.count])
+                wire::padded(&[0, selection.count])
             }
-            Err(why) => plain::told(&[why.number()]),
+            Err(why) => wire::padded(&[why.number()]),
         }
     }
 
     // Slot k of the last pick, modulo 10.
     fn slot(&self, k: u8) -> [u8; 8] {
-        let s = self.slots[usize::from(k % 10)];
-        plain::told(&[
-            s.index,
-            s.sprite.y,
-            s.sprite.x,
-            s.sprite.tile,
-            s.sprite.flags,
-        ])
+        wire::padded(&self.slots[usize::from(k % 10)].to_bytes())
     }
 }
 

@@ -8,6 +8,8 @@ mod plain;
 
 use bench::Bench;
 
+// As in `replay`, with a bench and a name of its own: what the two share is `answer_list` and `say`.
+//
 // The exit status tells nothing: why the answers end before the list does is said on standard error.
 fn main(rt: HostRuntime) {
     let mut bench = Bench::fresh();

@@ -11,7 +11,7 @@ pub struct Palettes {
     ghost in_range: { set.index < 64 },
 }
 
-// The word of colour number c, modulo 4.
+// The word of colour number c, modulo 4: a palette is four numbers (docs/01-scope.md).
 fn raw_of(p: ColorPalette, c: u8) -> u16 {
     match c % 4 {
         0 => p.c0,
@@ -30,18 +30,18 @@ impl Palettes {
 
     // What the two ports read as.
     fn ports(&self) -> [u8; 8] {
-        plain::told(&[self.set.read_index(), self.set.read_color_data()])
+        wire::padded(&[self.set.read_index(), self.set.read_color_data()])
     }
 
     // A write to the index port.
     fn write_index(&mut self, v: u8) -> [u8; 8] {
-        self.set = self.set.after_write(false, v);
-        plain::told(&[self.set.read_index()])
+        self.set.write_index(v);
+        wire::padded(&[self.set.read_index()])
     }
 
     // A write to the data port.
     fn write_data(&mut self, v: u8) -> [u8; 8] {
-        self.set = self.set.after_write(true, v);
+        self.set.write_color_data(v);
         self.ports()
     }
 
@@ -63,7 +63,8 @@ impl Palettes {
         [0; 8]
     }
 
-    // The answer to a request to the palettes, by its kind: the numbers are the list's own format.
+    // The answer to a request to the palettes, by its kind: the numbers are the list's own format, and an enum between would name each
+    // of them once more.
     pub fn answer(&mut self, q: [u8; 8]) -> [u8; 8] {
         match q[0] {
             11 => self.restart(),

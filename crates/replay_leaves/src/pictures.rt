@@ -1,13 +1,13 @@
 // The requests to the two pictures.
-ghost use Rattle.std.specs.Prelude.{◌≡◌, ◌≤◌, length};
-ghost use Rattle.hardware.specs.Screen.{picture_bytes};
+ghost use Rattle.std.specs.Prelude.{◌≡◌, ◌&&◌, ltb, ◌≤◌, length};
+ghost use Rattle.hardware.specs.Screen.{width, height, picture_bytes};
 
 use crate::plain;
 use colors::Color;
 use hardware::Machine;
 use wire::Digest;
 
-// Two pictures, and the number of the one shown.
+// Two pictures, and the number of the one shown: a number, since `lcd` and docs/01-scope.md have it as 0 or 1.
 #[derive(Drop)]
 pub struct Pictures {
     a: [u8; Machine::PICTURE_BYTES],
@@ -16,15 +16,22 @@ pub struct Pictures {
     ghost one_of_two: { shown ≤ 1 },
 }
 
-// The three bytes of a place of a picture.
+// Whether a place is on the screen.
+fn is_place(x: u8, y: u8) -> bool
+    ensures { result ≡ (ltb x width && ltb y height) }
+{
+    usize::from(x) < Machine::WIDTH && usize::from(y) < Machine::HEIGHT
+}
+
+// The three bytes of a place of a picture, which is a slice as `lcd::screen_buffer` gives it.
 fn place(picture: &[u8], x: u8, y: u8) -> [u8; 8]
     requires { length picture.now ≡ picture_bytes }
 {
-    if usize::from(x) >= Machine::WIDTH || usize::from(y) >= Machine::HEIGHT {
+    if !is_place(x, y) {
         return plain::UNKNOWN;
     }
     let at = lcd::offset_of(x, y);
-    plain::told(&picture[at..at + 3])
+    wire::padded(&picture[at..at + 3])
 }
 
 impl Pictures {
@@ -46,9 +53,10 @@ impl Pictures {
 
     // Stores a colour in the picture that is not shown.
     fn store(&mut self, x: u8, y: u8, c: Color) -> [u8; 8] {
-        if usize::from(x) >= Machine::WIDTH || usize::from(y) >= Machine::HEIGHT {
+        if !is_place(x, y) {
             return plain::UNKNOWN;
         }
+        // A call for each: a `&mut` that is one of two pictures gets no proof.
         if self.shown == 0 {
             lcd::store(&mut self.b, x, y, lcd::mixed(c));
         } else {
@@ -60,7 +68,7 @@ impl Pictures {
     // Shows the other picture.
     fn switch(&mut self) -> [u8; 8] {
         self.shown = lcd::next_buffer_index(self.shown);
-        plain::told(&[self.shown])
+        wire::padded(&[self.shown])
     }
 
     // The picture shown at 0, the other at any other number.
@@ -75,7 +83,8 @@ impl Pictures {
         lcd::screen_buffer(n, &self.a, &self.b)
     }
 
-    // The answer to a request to the pictures, by its kind: the numbers are the list's own format.
+    // The answer to a request to the pictures, by its kind: the numbers are the list's own format, and an enum between would name each
+    // of them once more.
     pub fn answer(&mut self, q: [u8; 8]) -> [u8; 8] {
         match q[0] {
             18 => self.clear(),

@@ -1,6 +1,4 @@
 // The requests that keep no state: an attribute, a sprite, a colour, a shade.
-ghost use Rattle.std.specs.Prelude.{◌≤◌, length};
-
 use bg_attribs::BgAttribute;
 use colors::Color;
 use sprite::Sprite;
@@ -8,23 +6,16 @@ use sprite::Sprite;
 // The answer to a request that is not known, or whose place is not on the screen.
 pub const UNKNOWN: [u8; 8] = [255, 0, 0, 0, 0, 0, 0, 0];
 
-// An answer that begins with these bytes.
-pub fn told(bytes: &[u8]) -> [u8; 8]
-    requires { length bytes.now ≤ 8 }
-{
-    wire::padded(bytes)
-}
-
 // A colour and a word, low byte first.
 pub fn color_and_raw(c: Color, raw: u16) -> [u8; 8] {
     let [low, high] = raw.to_le_bytes();
-    told(&[c.r, c.g, c.b, low, high])
+    wire::padded(&[c.r, c.g, c.b, low, high])
 }
 
 // The parts of an attribute byte.
 fn attribs(byte: u8) -> [u8; 8] {
     let a = BgAttribute::new(byte);
-    told(&[
+    wire::padded(&[
         a.bank(),
         a.palette(),
         u8::from(a.is_horizontal_flip()),
@@ -65,14 +56,14 @@ fn in_range(y: u8, line: u8, tall: u8) -> [u8; 8] {
         tile: 0,
         flags: 0,
     };
-    told(&[u8::from(s.in_range(line, tall))])
+    wire::padded(&[u8::from(s.in_range(line, tall))])
 }
 
 // A byte of an entry, and the entry after a write there.
 fn at_offset(s: Sprite, offset: u8, value: u8) -> [u8; 8] {
     let before = s.get_at_offset(offset % 4);
     let after = s.set_at_offset(offset % 4, value);
-    told(&[before, after.y, after.x, after.tile, after.flags])
+    wire::padded(&[before, after.y, after.x, after.tile, after.flags])
 }
 
 // The colour of a word, and the word of it again.
@@ -84,7 +75,7 @@ fn from_raw(raw: u16) -> [u8; 8] {
 // A colour as the display mixes it.
 pub fn mix(c: Color) -> [u8; 8] {
     let p = lcd::mixed(c);
-    told(&[p.red, p.green, p.blue])
+    wire::padded(&[p.red, p.green, p.blue])
 }
 
 // Bytes 1 to 3 of a request as a colour.
@@ -98,10 +89,11 @@ fn color_of(q: [u8; 8]) -> Color {
 
 // The shade of a colour, modulo 4, by a palette byte.
 fn shade(palette: u8, color: u8) -> [u8; 8] {
-    told(&[colors::shade_of(palette, color % 4)])
+    wire::padded(&[colors::shade_of(palette, color % 4)])
 }
 
-// The answer to a request that keeps no state, by its kind: the numbers are the list's own format.
+// The answer to a request that keeps no state, by its kind: the numbers are the list's own format, and an enum between would name each
+// of them once more.
 pub fn answer(q: [u8; 8]) -> [u8; 8] {
     match q[0] {
         1 => attribs(q[1]),
@@ -109,7 +101,7 @@ pub fn answer(q: [u8; 8]) -> [u8; 8] {
         3 => in_range(q[1], q[2], q[3]),
         4 => at_offset(sprite_of(q), q[5], q[6]),
         8 => from_raw(u16::from_le_bytes([q[1], q[2]])),
-        9 => told(&color_of(q).to_raw().to_le_bytes()),
+        9 => wire::padded(&color_of(q).to_raw().to_le_bytes()),
         10 => mix(color_of(q)),
         17 => shade(q[1], q[2]),
         _ => UNKNOWN,

@@ -1,7 +1,9 @@
-// Sprites: an entry of OAM, and the search of a line for the ten to draw.
+// Sprites: an entry of OAM, and the search of a line for the ten to draw. OAM, a line and a height come one by one: docs/PROMISES.md
+// names `select` and `pick` as they are, and a pick can be refused for each of the three. OAM is a slice, with a clause
+// on its length in `select`, since `pick` takes one of any length and tests it.
 #![tactic(auto)]
 
-ghost use Rattle.std.specs.Prelude.{◌≡◌, ◌<◌, ◌*◌, ◌+◌, length, get_or, set};
+ghost use Rattle.std.specs.Prelude.{◌≡◌, ◌∷◌, ◌<◌, ◌*◌, ◌+◌, length, get_or, set, take};
 ghost use Rattle.hardware.specs.Tables.{oam_bytes};
 ghost use Rattle.sprite.specs.Oam.{entry, screen_y, screen_x, in_range, entry_bytes, moved_left};
 ghost use Rattle.sprite.specs.Oam.{colour_palette, bank_of, grey_palette, x_flip, y_flip, behind};
@@ -21,7 +23,7 @@ pub struct Sprite {
 }
 
 impl Sprite {
-    // Entry i of OAM.
+    // Entry i of OAM: each byte by its place, as `entry` has them.
     pub fn at(oam: &[u8], i: usize) -> Self
         requires { 4 * i + 3 < length oam.now }
         ensures { result ≡ entry oam.now i }
@@ -34,7 +36,8 @@ impl Sprite {
         }
     }
 
-    // The byte at an offset of the entry: y, x, tile, flags.
+    // The byte at an offset of the entry: y, x, tile, flags. A number and no enum: it is the lower two bits of the byte's address in
+    // OAM, and docs/PROMISES.md names both functions.
     pub fn get_at_offset(self, offset: u8) -> u8
         requires { offset < 4 }
         ensures { result ≡ get_or (entry_bytes self) offset 0 }
@@ -47,7 +50,7 @@ impl Sprite {
         }
     }
 
-    // The entry with another byte at an offset.
+    // The entry with another byte at an offset, the same number.
     pub fn set_at_offset(self, offset: u8, data: u8) -> Self
         requires { offset < 4 }
         ensures { result ≡ entry (set (entry_bytes self) offset «data») 0 }
@@ -135,6 +138,14 @@ impl SelectedSprite {
     {
         SelectedSprite { sprite, index }
     }
+
+    // The index, and the four bytes of the entry.
+    pub fn to_bytes(self) -> [u8; 5]
+        ensures { result ≡ self.index ∷ entry_bytes self.sprite }
+    {
+        let Sprite { y, x, tile, flags } = self.sprite;
+        [self.index, y, x, tile, flags]
+    }
 }
 
 // The entries that a search picked: the first `count` of the slots. An array with a count, since nothing here allocates, and since
@@ -143,6 +154,15 @@ impl SelectedSprite {
 pub struct Selection {
     pub count: u8,
     pub slots: [SelectedSprite; 10],
+}
+
+impl Selection {
+    // The entries that were picked, in OAM's order.
+    pub fn entries(&self) -> &[SelectedSprite]
+        ensures { result.now ≡ take self.now.count self.now.slots }
+    {
+        &self.slots[..usize::from(self.count).min(10)]
+    }
 }
 
 // The ten lowest entries in range of a line, over slots that keep what they had past the count.
@@ -176,14 +196,13 @@ pub fn select(oam: &[u8], line: u8, tall: u8, former: [SelectedSprite; 10]) -> S
 pub fn blank() -> [SelectedSprite; 10]
     ensures { result ≡ blank_slots }
 {
-    let nothing = Sprite {
-        y: 0,
-        x: 0,
-        tile: 0,
-        flags: 0,
-    };
     [SelectedSprite {
-        sprite: nothing,
+        sprite: Sprite {
+            y: 0,
+            x: 0,
+            tile: 0,
+            flags: 0,
+        },
         index: 0,
     }; 10]
 }
@@ -199,7 +218,7 @@ pub fn is_tall(tall: u8) -> bool
 fn is_pickable(line: u8, tall: u8) -> bool
     ensures { result ≡ pickable line tall }
 {
-    (line as usize) < Machine::HEIGHT && is_tall(tall)
+    usize::from(line) < Machine::HEIGHT && is_tall(tall)
 }
 
 // Whether a pick is refused: by 1 or 4.
@@ -225,7 +244,7 @@ pub fn move_left(colors: [u8; 8], x: u8) -> [u8; 8]
     if x >= 8 {
         return colors;
     }
-    let kept = x as usize;
+    let kept = usize::from(x);
     let mut out = [0; 8];
     out[..kept].copy_from_slice(&colors[8 - kept..]);
     out

@@ -2,8 +2,7 @@
 // edit is two bytes: the low byte of an address, and a value.
 #![tactic(auto)]
 
-ghost use Rattle.std.specs.Prelude.{◌≡◌, true, ◌≤◌, ◌/◌, length, take, OnOk};
-ghost use Rattle.hardware.specs.Tables.{oam_bytes};
+ghost use Rattle.std.specs.Prelude.{◌≡◌, true, ◌/◌, length, OnOk};
 ghost use Rattle.sprite.specs.Pick.{is_tall};
 ghost use Rattle.line_sets.specs.Lines.{AreOf};
 ghost use Rattle.sprite_lists.specs.Edits.{edited};
@@ -15,40 +14,16 @@ use std::io;
 use std::io::{Read, Write};
 use wire::NoAnswer;
 
-// OAM and the height, before the edits.
-const HEAD_BYTES: usize = Machine::OAM_BYTES + 1;
-
 // The indexes of a selection, in order. Each function that prints stops at the first write that fails.
 fn print_indexes(out: &mut impl Write, selection: &Selection) -> io::Result<()> {
-    for slot in selection.slots.iter().take(usize::from(selection.count)) {
+    for slot in selection.entries() {
         let index = slot.index;
         write!(out, " {index}")?;
     }
     Ok(())
 }
 
-// A line of the picture: its number, how many entries touch it, the first of them, and the ten at most that are drawn.
-fn print_list(out: &mut impl Write, oam: &[u8], sets: &[u64], line: u8) -> io::Result<()> {
-    let count = line_sets::count(sets, line).unwrap_or(0);
-    write!(out, "{line} {count}")?;
-    if let Ok(Some(first)) = line_sets::first(sets, line) {
-        write!(out, " {first}:")?;
-    }
-    if let Ok(selection) = line_sets::pick(oam, sets, line) {
-        print_indexes(out, &selection)?;
-    }
-    out.write_all(b"\n")
-}
-
-// All lines, from the top.
-fn print_lists(out: &mut impl Write, oam: &[u8], sets: &[u64]) -> io::Result<()> {
-    for line in 0..144 {
-        print_list(out, oam, sets, line)?;
-    }
-    Ok(())
-}
-
-// A refusal, by its number.
+// A refusal, by its number, as `picks` prints one.
 fn print_refusal(out: &mut impl Write, why: Refusal) -> io::Result<()> {
     let number = why.number();
     writeln!(out, "refused {number}")
@@ -60,56 +35,81 @@ fn print_refused(out: &mut impl Write, edit: usize, why: Refusal) -> io::Result<
     print_refusal(out, why)
 }
 
-// Makes the edits in order, each through the sets: they stay OAM's. Ok where all were made and what was refused was printed.
-fn edit_all(
-    out: &mut impl Write,
-    oam: &mut [u8],
-    sets: &mut [u64],
+// OAM and the sets of its lines, for sprites so tall: the sets are OAM's.
+#[derive(Drop)]
+struct Lists {
+    oam: [u8; Machine::OAM_BYTES],
+    sets: [u64; Machine::HEIGHT],
     tall: u8,
-    edits: &[u8],
-) -> io::Result<()>
-    requires { (length oam.old ≡ oam_bytes) × (is_tall tall ≡ true) × AreOf oam.old tall sets.old }
-    ensures { AreOf oam.new tall sets.new
-        × OnOk result (oam.new ≡ edited oam.old edits.now (length edits.now / 2)) }
-{
-    let (pairs, _) = edits.as_chunks::<2>();
-    for (edit, pair) in pairs.iter().enumerate() {
-        let address = u16::from(pair[0]);
-        let value = pair[1];
-        if let Err(why) = line_sets::write_oam(oam, sets, tall, address, value) {
-            print_refused(out, edit, why)?;
+    ghost is_tall: { is_tall tall ≡ true },
+    ghost are_true: { AreOf oam tall sets },
+}
+
+impl Lists {
+    // The lists of OAM, unless sprites cannot be so tall.
+    fn of(oam: [u8; Machine::OAM_BYTES], tall: u8) -> Result<Self, Refusal> {
+        let mut sets = [0; Machine::HEIGHT];
+        line_sets::build(&oam, &mut sets, tall)?;
+        Ok(Lists { oam, sets, tall })
+    }
+
+    // Makes the edits in order, each through the sets. Ok where all were made and what was refused was printed.
+    fn edit_all(&mut self, out: &mut impl Write, edits: &[u8]) -> io::Result<()>
+        ensures { (self.new.tall ≡ self.old.tall)
+            × OnOk result (self.new.oam ≡ edited self.old.oam edits.now (length edits.now / 2)) }
+    {
+        let (pairs, _) = edits.as_chunks::<2>();
+        for (edit, pair) in pairs.iter().enumerate() {
+            let address = u16::from(pair[0]);
+            let value = pair[1];
+            if let Err(why) = line_sets::write_oam(
+                &mut self.oam,
+                &mut self.sets,
+                self.tall,
+                address,
+                value,
+            ) {
+                print_refused(out, edit, why)?;
+            }
+        }
+        Ok(())
+    }
+
+    // A line of the picture: its number, how many entries touch it, the first of them, and the ten at most that are drawn.
+    fn print_line(&self, out: &mut impl Write, line: u8) -> io::Result<()> {
+        let count = line_sets::count(&self.sets, line).unwrap_or(0);
+        write!(out, "{line} {count}")?;
+        if let Ok(Some(first)) = line_sets::first(&self.sets, line) {
+            write!(out, " {first}:")?;
+        }
+        if let Ok(selection) = line_sets::pick(&self.oam, &self.sets, line) {
+            print_indexes(out, &selection)?;
+        }
+        out.write_all(b"\n")
+    }
+
+    // All lines, from the top. The index is the line's number.
+    fn print(&self, out: &mut impl Write) -> io::Result<()> {
+        for line in 0..144 {
+            self.print_line(out, line)?;
+        }
+        Ok(())
+    }
+}
+
+// The answer to an input, which begins with OAM and the height: a refusal, or the lists after the edits.
+fn answer(out: &mut impl Write, input: &[u8]) -> Result<(), NoAnswer> {
+    let Some((oam, [tall, edits @ ..])) = input.split_first_chunk::<{ Machine::OAM_BYTES }>() else {
+        return Ok(print_refusal(out, Refusal::Length)?);
+    };
+    match Lists::of(*oam, *tall) {
+        Err(why) => Ok(print_refusal(out, why)?),
+        Ok(_) if edits.len() % 2 != 0 => Err(NoAnswer::Cut),
+        Ok(mut lists) => {
+            lists.edit_all(out, edits)?;
+            Ok(lists.print(out)?)
         }
     }
-    Ok(())
-}
-
-// OAM, at the head of the input.
-fn oam_of(input: &[u8]) -> [u8; Machine::OAM_BYTES]
-    requires { oam_bytes ≤ length input.now }
-    ensures { result ≡ take oam_bytes input.now }
-{
-    let mut oam = [0; Machine::OAM_BYTES];
-    oam.copy_from_slice(&input[..Machine::OAM_BYTES]);
-    oam
-}
-
-// The answer to an input: a refusal, or the lists after the edits.
-fn answer(out: &mut impl Write, input: &[u8]) -> Result<(), NoAnswer> {
-    if input.len() < HEAD_BYTES {
-        return Ok(print_refusal(out, Refusal::Length)?);
-    }
-    let mut oam = oam_of(input);
-    let mut sets = [0u64; Machine::HEIGHT];
-    let tall = input[Machine::OAM_BYTES];
-    let edits = &input[HEAD_BYTES..];
-    if let Err(why) = line_sets::build(&oam, &mut sets, tall) {
-        return Ok(print_refusal(out, why)?);
-    }
-    if edits.len() % 2 != 0 {
-        return Err(NoAnswer::Cut);
-    }
-    edit_all(out, &mut oam, &mut sets, tall, edits)?;
-    Ok(print_lists(out, &oam, &sets)?)
 }
 
 // Reads an input and prints its answer.

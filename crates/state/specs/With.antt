@@ -2,8 +2,8 @@
 -- changes a part of the state is said with these.
 use Rattle.std.specs.Prelude.{ℕ, ◌+◌, ◌*◌, ◌/◌, ◌%◌, Bool, cond, Option}
 use Rattle.sprite.specs.declared.Selection.{Selection}
-use Rattle.fifo.specs.declared.BgFifo.{BgFifo}
-use Rattle.fifo.specs.declared.SpriteFifo.{SpriteFifo}
+use Rattle.fifo.specs.Background.{BgFifo}
+use Rattle.fifo.specs.Sprites.{SpriteFifo}
 use Rattle.state.specs.declared.Registers.{Registers}
 use Rattle.state.specs.declared.Palettes.{Palettes}
 use Rattle.state.specs.declared.Fetcher.{Fetcher}

@@ -56,7 +56,8 @@ pub struct Pipe {
 }
 
 // The beam: line and cycle, LCD x, the picture shown, the places stored since the last swap or blanking, the cycle at
-// which mode 3 ended, the STAT level, whether the display was just turned on, and whether it was blanked since the last swap.
+// which mode 3 ended, the STAT level, whether the display was just turned on, and whether it was blanked since the last swap. The picture
+// shown is a number, as docs/01-scope.md has it, and one over 1 is refused.
 #[derive(Clone, Copy)]
 pub struct Beam {
     pub line: u8,

@@ -6,14 +6,14 @@
 ghost use Rattle.std.specs.Prelude.{◌≡◌, true, ◌&&◌, IfOk};
 ghost use Rattle.hardware.specs.Tables.{tables, tables_fit};
 ghost use Rattle.lcd.specs.Pictures.{pictures, pictures_fit};
-ghost use Rattle.oam_bug.specs.Kinds.{is_kind, kind_number as kind_number_of};
+ghost use Rattle.oam_bug.specs.Kinds.{is_kind, number_of_kind};
 ghost use Rattle.refusals.specs.Ladder.{own};
 ghost use Rattle.refusals.specs.Refused.{number_of};
 ghost use Rattle.registers.specs.Registers.{listed};
 ghost use Rattle.terms.specs.Numbers.{paced, in_oam, timely, step_number, write_number, read_number};
 ghost use Rattle.terms.specs.Numbers.{vram_number, oam_number, locked_oam_number, colour_number, kind_number, shown_number, Graded};
 
-use hardware::Machine;
+use hardware::{Machine, Mode};
 use oam_bug::Kind;
 use refusals::{Refusal, need};
 use state::State;
@@ -22,20 +22,14 @@ use state::State;
 fn tables_fit(vram: &[u8], oam: &[u8]) -> bool
     ensures { result ≡ tables_fit (tables vram.now oam.now) }
 {
-    if vram.len() != Machine::VRAM_BYTES {
-        return false;
-    }
-    oam.len() == Machine::OAM_BYTES
+    vram.len() == Machine::VRAM_BYTES && oam.len() == Machine::OAM_BYTES
 }
 
-// Whether both pictures have their length.
+// Whether both pictures have their length, by a definition of its own, as `tables_fit` has one.
 fn pictures_fit(a: &[u8], b: &[u8]) -> bool
     ensures { result ≡ pictures_fit (pictures a.now b.now) }
 {
-    if a.len() != Machine::PICTURE_BYTES {
-        return false;
-    }
-    b.len() == Machine::PICTURE_BYTES
+    a.len() == Machine::PICTURE_BYTES && b.len() == Machine::PICTURE_BYTES
 }
 
 // Whether every lent buffer has its length.
@@ -43,43 +37,28 @@ pub fn all_fit(vram: &[u8], oam: &[u8], a: &[u8], b: &[u8]) -> bool
     ensures { result ≡ tables_fit (tables vram.now oam.now)
         && pictures_fit (pictures a.now b.now) }
 {
-    if !tables_fit(vram, oam) {
-        return false;
-    }
-    pictures_fit(a, b)
+    tables_fit(vram, oam) && pictures_fit(a, b)
 }
 
 // Whether a step is 2, or 4 at a multiple of 4.
 fn is_paced(cycle: u16, cycles: u8) -> bool
     ensures { result ≡ paced cycle cycles }
 {
-    if cycles == 2 {
-        return true;
-    }
-    if cycles != 4 {
-        return false;
-    }
-    cycle % 4 == 0
+    cycles == 2 || cycles == 4 && cycle % 4 == 0
 }
 
 // Whether a corruption is asked outside mode 2, or in it with a cycle from 4 to 83.
 fn is_timely(s: State) -> bool
     ensures { result ≡ timely s }
 {
-    if s.regs.stat % 4 != 2 {
-        return true;
-    }
-    if s.beam.cycle < 4 {
-        return false;
-    }
-    s.beam.cycle <= 83
+    Mode::of(s.regs.stat) != Mode::Search || (4..=83).contains(&s.beam.cycle)
 }
 
 // Whether the low byte of an address is in OAM.
 fn is_in_oam(address: u16) -> bool
     ensures { result ≡ in_oam address }
 {
-    ((address % 256) as usize) < Machine::OAM_BYTES
+    Machine::oam_place(address) < Machine::OAM_BYTES
 }
 
 // Whether a register can be written.
@@ -155,21 +134,18 @@ pub fn colour(s: State) -> Result<(), Refusal>
     need(order::in_order(s), Refusal::State)
 }
 
-// The kind of corruption that a number means: refused by 4.
+// The kind of corruption that a number means: refused by 4. The calls take a number, and from here on it is a `Kind`.
 fn known_kind(number: u8) -> Result<Kind, Refusal>
     ensures number { number_of result ≡ own (is_kind number) 4 }
-    ensures kind { IfOk result (λ kind. kind_number_of kind ≡ number) }
+    ensures kind { IfOk result (λ kind. number_of_kind kind ≡ number) }
 {
-    match Kind::try_from(number) {
-        Ok(kind) => Ok(kind),
-        Err(_) => Err(Refusal::Argument),
-    }
+    Kind::try_from(number).map_err(|_| Refusal::Argument)
 }
 
 // A corruption, and its kind by its number: refused by 1, 2, 4, 5.
 pub fn kind(s: State, oam: &[u8], number: u8) -> Result<Kind, Refusal>
     ensures number { Graded s (kind_number s oam.now number) (number_of result) }
-    ensures kind { IfOk result (λ kind. kind_number_of kind ≡ number) }
+    ensures kind { IfOk result (λ kind. number_of_kind kind ≡ number) }
 {
     need(oam.len() == Machine::OAM_BYTES, Refusal::Length)?;
     need(order::in_order(s), Refusal::State)?;

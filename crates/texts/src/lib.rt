@@ -7,7 +7,7 @@ ghost use Rattle.texts.specs.Numbers.{letter as letterOf, places as places_of};
 
 use std::marker::Model;
 
-// Bytes put one behind the other, at most N.
+// Bytes put one behind the other, at most N: an array with a count, since nothing here allocates.
 #[derive(Drop)]
 pub struct Text<const N: usize> {
     bytes: [u8; N],
@@ -42,14 +42,14 @@ impl<const N: usize> Text<N> {
         &self.bytes[..self.len]
     }
 
-    // No bytes any more.
+    // Takes all bytes out.
     pub fn clear(&mut self)
         ensures { self.new ≡ [] }
     {
         self.len = 0;
     }
 
-    // A byte.
+    // Puts a byte behind the last.
     pub fn put_byte(&mut self, byte: u8)
         requires { length self.old < N }
         ensures put { self.new ≡ self.old ++ byte ∷ [] }
@@ -59,13 +59,14 @@ impl<const N: usize> Text<N> {
         self.len += 1;
     }
 
-    // Bytes.
+    // Puts bytes behind the last.
     pub fn put(&mut self, bytes: &[u8])
         requires { length self.old + length bytes.now ≤ N }
         ensures put { self.new ≡ self.old ++ bytes.now }
         ensures len { length self.new ≡ length self.old + length bytes.now }
     {
         let end = self.len + bytes.len();
+        // A slice of all first: the check lends no part of an array whose length is a parameter.
         let room = &mut self.bytes[..];
         room[self.len..end].copy_from_slice(bytes);
         self.len = end;
@@ -84,26 +85,24 @@ impl<const N: usize> Text<N> {
     }
 
     // A decimal number with no zeros in front.
+    #[tactic(auto, unfolding(crate::specs::Numbers::decimal))]
     pub fn put_decimal(&mut self, n: u32)
         requires { length self.old + 10 ≤ N }
         ensures put { self.new ≡ self.old ++ decimal n }
         ensures most { length self.new ≤ length self.old + 10 }
     {
-        let number = n as u64;
+        let number = u64::from(n);
         self.put_digits(number, 10, places(number, 9));
     }
 }
 
 // A digit's letter.
+#[tactic(auto, unfolding(crate::specs::Numbers::letter))]
 fn letter(d: u64) -> u8
     requires { d < 16 }
     ensures { result ≡ letterOf d }
 {
-    if d < 10 {
-        b'0' + d as u8
-    } else {
-        b'A' + (d as u8 - 10)
-    }
+    b"0123456789ABCDEF"[d as usize]
 }
 
 // How many decimal digits a number has, one at least and at most one more than `more`.

@@ -1,4 +1,6 @@
-// Tile rows out of VRAM, each with where it was read: the background's by the map, and the sprites'.
+// Tile rows out of VRAM, each with where it was read: the background's by the map, and the sprites'. VRAM comes as a slice with a clause
+// on its length, a bank by its number, and a sprite, a line and a height one by one: README.md and docs/PROMISES.md name these functions as they are, and
+// `&[u8; Machine::VRAM_BYTES]` would ask more of a caller than the slice with its clause.
 #![tactic(auto)]
 
 ghost use Rattle.std.specs.Prelude.{◌≡◌, reverse, ◌<◌, ◌≤◌, length};
@@ -31,7 +33,7 @@ pub fn read_vram_banked(vram: &[u8], bank: u8, addr: u16) -> u8
     requires { (length vram.now ≡ vram_bytes) × (bank ≤ 1) }
     ensures { result ≡ byte_at vram.now bank addr }
 {
-    vram[Machine::BANK_BYTES as usize * bank as usize + (addr % Machine::BANK_BYTES) as usize]
+    vram[Machine::vram_place(bank, addr)]
 }
 
 // The colour in bit n of a row.
@@ -43,19 +45,11 @@ fn color_in(low: u8, high: u8, n: u8) -> u8
 }
 
 // The eight colours of a row, leftmost first, from its two bytes.
+#[tactic(auto, unfolding(crate::specs::Tile::row_of))]
 pub fn row_of(low: u8, high: u8) -> [u8; 8]
     ensures { result ≡ row_of low high }
 {
-    [
-        color_in(low, high, 7),
-        color_in(low, high, 6),
-        color_in(low, high, 5),
-        color_in(low, high, 4),
-        color_in(low, high, 3),
-        color_in(low, high, 2),
-        color_in(low, high, 1),
-        color_in(low, high, 0),
-    ]
+    std::array::from_fn(|k| color_in(low, high, 7 - k as u8))
 }
 
 // The row that stands at an address, and that address as its source. Rows are read here and nowhere else: whatever is to read
@@ -77,9 +71,9 @@ pub fn tile_row(vram: &[u8], address: Address) -> TileRow
 pub fn reversed(row: [u8; 8]) -> [u8; 8]
     ensures { result ≡ reverse row }
 {
-    [
-        row[7], row[6], row[5], row[4], row[3], row[2], row[1], row[0],
-    ]
+    let mut out = row;
+    out.reverse();
+    out
 }
 
 // A row, mirrored on an x flip.
@@ -93,12 +87,9 @@ pub fn mirror(flip: bool, row: [u8; 8]) -> [u8; 8]
 fn flip_row(flip: bool, read: TileRow) -> TileRow
     ensures { result ≡ flipped flip read }
 {
-    let colors = read.colors;
-    let seen = mirror(flip, colors);
-    let source = read.source;
     TileRow {
-        colors: seen,
-        source,
+        colors: mirror(flip, read.colors),
+        ..read
     }
 }
 
@@ -106,15 +97,16 @@ fn flip_row(flip: bool, read: TileRow) -> TileRow
 pub fn map_address(high: bool, row: u8, column: u8) -> u16
     ensures { result ≡ map_address high row column }
 {
-    let place = 32 * (row / 8) as u16 + column as u16;
+    let place = 32 * u16::from(row / 8) + u16::from(column);
     if high { 0x9C00 + place } else { 0x9800 + place }
 }
 
 // Where a background tile begins, its number signed when LCDC bit 4 is clear.
+#[tactic(auto, unfolding(crate::specs::Tile::tile_address))]
 pub fn tile_address(lcdc: u8, tile: u8) -> u16
     ensures { result ≡ tile_address lcdc tile }
 {
-    let place = 16 * tile as u16;
+    let place = 16 * u16::from(tile);
     if wrap::bit(lcdc, 4) {
         return 0x8000 + place;
     }
@@ -137,7 +129,7 @@ pub fn bg_address(lcdc: u8, tile: u8, attribute: BgAttribute, row: u8) -> Addres
     ensures { result ≡ bg_address lcdc tile attribute.bits row }
 {
     let line = tile_line(attribute.is_vertical_flip(), row);
-    let at = tile_address(lcdc, tile) + 2 * line as u16;
+    let at = tile_address(lcdc, tile) + 2 * u16::from(line);
     Address {
         bank: attribute.bank(),
         offset: at % Machine::BANK_BYTES,
@@ -145,6 +137,7 @@ pub fn bg_address(lcdc: u8, tile: u8, attribute: BgAttribute, row: u8) -> Addres
 }
 
 // The row of a tile by its number, its attribute and the row of the map.
+#[tactic(auto, unfolding(crate::specs::Sources::pattern_row, crate::specs::Map::pattern))]
 pub fn pattern_of(vram: &[u8], lcdc: u8, tile: u8, attribute: BgAttribute, row: u8) -> TileRow
     requires { length vram.now ≡ vram_bytes }
     ensures { result ≡ pattern_row vram.now lcdc tile attribute.bits row }
@@ -169,6 +162,7 @@ pub struct FetchedRow {
 }
 
 // The tile row of a map at a row of places and a column of tiles.
+#[tactic(auto, unfolding(crate::specs::Sources::pattern_row))]
 pub fn fetch_tile(vram: &[u8], lcdc: u8, high: bool, row: u8, column: u8) -> FetchedRow
     requires { length vram.now ≡ vram_bytes }
     ensures { result ≡ fetched_tile vram.now lcdc high row column }
@@ -176,9 +170,7 @@ pub fn fetch_tile(vram: &[u8], lcdc: u8, high: bool, row: u8, column: u8) -> Fet
     let place = map_address(high, row, column);
     let tile = read_vram_banked(vram, 0, place);
     let attribute = BgAttribute::new(read_vram_banked(vram, 1, place));
-    let read = pattern_of(vram, lcdc, tile, attribute, row);
-    let colors = read.colors;
-    let source = read.source;
+    let TileRow { colors, source } = pattern_of(vram, lcdc, tile, attribute, row);
     FetchedRow {
         tile: Fetched {
             row: colors,
@@ -206,10 +198,7 @@ pub struct Fetch {
 fn is_bg_off(cgb: bool, lcdc: u8) -> bool
     ensures { result ≡ bg_off cgb lcdc }
 {
-    if cgb {
-        return false;
-    }
-    !wrap::bit(lcdc, 0)
+    !cgb && !wrap::bit(lcdc, 0)
 }
 
 fn no_tile() -> FetchedRow
@@ -225,6 +214,7 @@ fn no_tile() -> FetchedRow
 }
 
 // The tile row of a fetch, in the window or scrolled; eight 0s, and nothing read, outside colour mode with LCDC bit 0 clear.
+#[tactic(auto, unfolding(crate::specs::Sources::fetched_row))]
 pub fn fetch_bg(vram: &[u8], f: Fetch) -> FetchedRow
     requires { length vram.now ≡ vram_bytes }
     ensures { result ≡ fetched_row vram.now f }
@@ -235,7 +225,7 @@ pub fn fetch_bg(vram: &[u8], f: Fetch) -> FetchedRow
     if f.window {
         return fetch_tile(vram, f.lcdc, wrap::bit(f.lcdc, 6), f.wrow, f.column);
     }
-    let row = (f.line as u16 + f.scy as u16) % 256;
+    let row = (u16::from(f.line) + u16::from(f.scy)) % 256;
     let column = (f.scx / 8 + f.column % 32) % 32;
     fetch_tile(vram, f.lcdc, wrap::bit(f.lcdc, 3), row as u8, column)
 }
@@ -267,7 +257,7 @@ pub fn sprite_address(sprite: Sprite, line: u8, tall: u8) -> Address
 {
     let row = sprite_line(sprite.y, line, tall, sprite.y_flipped());
     let tile = first_tile(sprite.tile, tall);
-    let at = 0x8000 + 16 * tile as u16 + 2 * row as u16;
+    let at = 0x8000 + 16 * u16::from(tile) + 2 * u16::from(row);
     Address {
         bank: sprite.bank(),
         offset: at % Machine::BANK_BYTES,
@@ -275,6 +265,7 @@ pub fn sprite_address(sprite: Sprite, line: u8, tall: u8) -> Address
 }
 
 // The row of a sprite in a line.
+#[tactic(auto, unfolding(crate::specs::Sources::sprite_tile_row, crate::specs::Objects::sprite_row))]
 pub fn sprite_row(vram: &[u8], sprite: Sprite, line: u8, tall: u8) -> TileRow
     requires { (length vram.now ≡ vram_bytes) × (0 < tall) }
     ensures { result ≡ sprite_tile_row vram.now sprite line tall }
@@ -287,34 +278,29 @@ pub fn sprite_row(vram: &[u8], sprite: Sprite, line: u8, tall: u8) -> TileRow
 fn starts_left(sprite: Sprite, x: u8) -> bool
     ensures { result ≡ starts_left sprite x }
 {
-    if x == 0 {
-        return sprite.x < 8;
-    }
-    false
+    x == 0 && sprite.x < 8
 }
 
 // Whether a sprite starts at column x.
 pub fn starts_at(sprite: Sprite, x: u8) -> bool
     ensures { result ≡ starts_at sprite x }
 {
-    if x == sprite.screen_x() {
-        return true;
-    }
-    starts_left(sprite, x)
+    x == sprite.screen_x() || starts_left(sprite, x)
 }
 
 // The row of a sprite that starts at column x: the colours left of column 0 are gone. Its source ends in this answer, as that of
 // a fetch does in `FetchedRow`.
+#[tactic(auto, unfolding(crate::specs::Sources::started_row, crate::specs::Sources::sprite_tile_row, crate::specs::Objects::sprite_colours))]
 pub fn sprite_colors(vram: &[u8], sprite: Sprite, line: u8, tall: u8, x: u8) -> TileRow
     requires { (length vram.now ≡ vram_bytes) × (0 < tall) }
     ensures { result ≡ started_row vram.now sprite line tall x }
 {
-    let mut read = sprite_row(vram, sprite, line, tall);
+    let read = sprite_row(vram, sprite, line, tall);
     if starts_left(sprite, x) {
-        let colors = read.colors;
-        let seen = sprite::move_left(colors, sprite.x);
-        read.colors = seen;
-        return read;
+        return TileRow {
+            colors: sprite::move_left(read.colors, sprite.x),
+            ..read
+        };
     }
     read
 }

@@ -47,7 +47,7 @@ impl From<io::Error> for Stop {
 }
 
 // Why an input that is read whole has no answer, or not all of it: a read failed; it is longer than 65536 bytes; it ends within an
-// edit of two bytes; a write failed.
+// edit of two bytes; a write failed. No case says what one of `Stop` says, and no program meets both: one enum would have all seven.
 #[derive(Clone, Copy, Debug, PartialEq, Eq)]
 pub enum NoAnswer {
     Unread,
@@ -73,7 +73,8 @@ impl From<io::Error> for NoAnswer {
     }
 }
 
-// Reads until the buffer is full, the input ends or a read fails, and answers how many bytes came: they stand at its start.
+// Reads until the buffer is full, the input ends or a read fails, and answers how many bytes came: they stand at its start. A number and no slice,
+// as std's `read` has it, so that the caller's buffer stays its own.
 pub fn read_full(input: &mut impl Read, buffer: &mut [u8]) -> usize
     ensures { result ≤ length buffer.new }
 {
@@ -95,7 +96,7 @@ pub fn is_at_end(input: &mut impl Read) -> bool {
     matches!(input.read(&mut byte), Ok(0))
 }
 
-// Reads an input whole, or as much of it as the buffer takes: so many bytes, at its start.
+// Reads an input whole, or as much of it as the buffer takes: so many bytes, at its start, as `read_full`.
 pub fn read_input(input: &mut impl Read, buffer: &mut [u8]) -> Result<usize, NoAnswer>
     ensures { IfOk result (λ n. n ≤ length buffer.new) }
 {
@@ -139,7 +140,7 @@ fn answer_all<const N: usize>(
     Ok(())
 }
 
-// Answers the requests of a buffer. Whether the list ends with them: a full buffer says nothing of it.
+// Answers the requests of a buffer, and whether the list ends with them, which a full buffer does not tell: a question, and so a `bool`.
 fn turn<const N: usize>(
     input: &mut impl Read,
     out: &mut impl Write,
@@ -162,8 +163,7 @@ fn turn<const N: usize>(
     Ok(is_over)
 }
 
-// Answers a list of requests to its end. Nothing says that an input ends, so the turns are counted up to a number that no run comes
-// to.
+// Answers a list of requests to its end. That an answer has 16 bytes at most stands in clauses: a const parameter has no bound of its own.
 pub fn answer_list<const N: usize>(
     input: &mut impl Read,
     out: &mut impl Write,
@@ -171,6 +171,8 @@ pub fn answer_list<const N: usize>(
 ) -> Result<(), Stop>
     requires { N ≤ 16 }
 {
+    // Nothing says that an input ends, and a loop without an end needs a handle: so the turns are counted, up to a number that no run
+    // comes to.
     for _ in 0..u64::MAX {
         if turn(input, out, desk)? {
             break;

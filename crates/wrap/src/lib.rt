@@ -1,4 +1,5 @@
-// Arithmetic modulo 256, and the bits of a byte by their place.
+// Arithmetic modulo 256, and the bits of a byte by their place. A place is a number below 8: each call but that of a tile's row names one,
+// and a type for it would be made there only to be taken apart here.
 #![tactic(auto)]
 
 ghost use Rattle.std.specs.Prelude.{◌≡◌, ◌<◌};

@@ -1,6 +1,14 @@
 -- `burst::draw_all` meets its contract. The loop's invariant: what is left of the run goes on from the state and the picture reached.
-use mathlib.Core.Path.{◌≡◌, sym, ap, ◌∙◌}
+use mathlib.Core.Path.{◌≡◌, refl, sym, ap, ◌∙◌}
+use mathlib.Core.Bool.{Bool, true, false, not}
 use mathlib.Core.List.{List}
+use denote.Enum.Bare.{sameb}
+use borrow.Author.Tests.{eqb-true, not-false}
+use Rattle.std.proofs.Common.{nat_eq, eq-eqb}
+use Rattle.hardware.specs.Modes.{mode_number}
+use Rattle.hardware.specs.contracts.Mode.{the_type}
+use Rattle.hardware.specs.declared.Mode.{Mode}
+use Rattle.hardware.specs.declared.Mode.TheVariants.{HBlank, VBlank, Search, Draw}
 use Prim.Native.Nat.{ℕ, suc, ◌+◌, ◌-◌, ◌≤◌, ◌<◌}
 use native.Mathlib.Omega.{arith}
 use Rattle.state.specs.With.{mode_of, with_pipe}
@@ -64,9 +72,22 @@ made c =
           w.state-is ∙ ap (with_pipe s) (w.wait-state.ensures ∙ sym (prepared_none v s (sym c.does_join.ensures ∙ w.if-does_join.false)))
     ]
 
-pub returns-then-state-ne3 : goal.returns-then-state-ne3
-returns-then-state-ne3 c =
-    under_out c.if-state-ne3.true c.loop.invariant
+-- what the test of the mode says of its number
+drawing : (m : Mode) → nat_eq (mode_number m) 3 ≡ sameb the_type m Draw
+drawing HBlank = refl
+drawing VBlank = refl
+drawing Search = refl
+drawing Draw = refl
+
+module _ (m : Mode) {n : ℕ} {b : Bool} (other : b ≡ not (sameb the_type m Draw)) (number : mode_number m ≡ n) where
+  is_other : b ≡ true → n ≡ 3 → ⊥
+  is_other t e = let d = drawing m in let a = eq-eqb (mode_number m) 3 (number ∙ e) in cc
+
+  is_draw : b ≡ false → n ≡ 3
+  is_draw f = sym number ∙ eqb-true (mode_number m) 3 (drawing m ∙ not-false _ (sym other ∙ f))
+
+pub returns-then-ne : goal.returns-then-ne
+returns-then-ne c = under_out (is_other _ c.ne.ensures c.of.ensures c.if-ne.true) c.loop.invariant
 
 pub wait-state-requires : goal.wait-state-requires
 wait-state-requires c =
@@ -81,13 +102,13 @@ draw-drawn-requires c =
 pub store_shot-requires : goal.store_shot-requires
 store_shot-requires c =
     let l = c.loop in
-    (l.invariant.size, rw (c.draw-drawn.ensures, made (goal.at.store_shot-requires c).Joined-does_join, halves_drawn) (drawn_on_screen _ l.state l.invariant.fine c.if-state-ne3.false))
+    (l.invariant.size, rw (c.draw-drawn.ensures, made (goal.at.store_shot-requires c).Joined-does_join, halves_drawn) (drawn_on_screen _ l.state l.invariant.fine (is_draw _ c.ne.ensures c.of.ensures c.if-ne.false)))
 
 pub loop-preserved : goal.loop-preserved
 loop-preserved c =
     let l = c.loop in
     rw (c.store_shot.ensures, c.draw-drawn.ensures, made (goal.at.loop-preserved c).Joined-does_join, halves_drawn)
-    (under_more c.loop-test.true c.if-state-ne3.false l.invariant)
+    (under_more c.loop-test.true (is_draw _ c.ne.ensures c.of.ensures c.if-ne.false) l.invariant)
 
 pub returns : goal.returns
 returns c = under_end c.loop-test.false c.loop.invariant

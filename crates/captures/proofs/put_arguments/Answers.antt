@@ -1,5 +1,6 @@
 -- `captures::put_arguments` meets its contract. Each arm puts its arguments one behind the other.
 use mathlib.Core.List.{append_assoc, append-nil}
+use mathlib.Core.Logic.{inl, inr}
 use Rattle.captures.specs.Printing.{spaced, arguments_of}
 use Rattle.captures.proofs.put_arguments.Goals as goal
 
@@ -9,19 +10,15 @@ returns-in-Start c = rw (c.in-Start.is, c.put_either-in-Start.ensures.put, c.put
 
 pub returns-in-Write : goal.returns-in-Write
 unfolding spaced arguments_of
-returns-in-Write c = rw (c.in-Write.is, c.put_hexadecimal-in-Write.ensures.put, c.put_hexadecimal.ensures.put) (simp (append_assoc, append-nil))
+returns-in-Write c = rw (c.in-Write.is, c.put_hexadecimal-in-Write.ensures.put, c.put_hexadecimal.ensures.put, c.from-in-Write.ensures, c.from.ensures) (simp (append_assoc, append-nil))
 
 pub returns-in-Vram : goal.returns-in-Vram
 unfolding arguments_of
-returns-in-Vram c = rw c.in-Vram.is c.put_bytes.ensures
-
-pub returns-in-Oam : goal.returns-in-Oam
-unfolding arguments_of
-returns-in-Oam c = rw c.in-Oam.is c.put_bytes-in-Oam.ensures
+returns-in-Vram c = elim c.in-Vram.is [ inl e ↦ rw e c.put_bytes.ensures | inr e ↦ rw e c.put_bytes.ensures ]
 
 pub returns-in-Step : goal.returns-in-Step
 unfolding spaced arguments_of
-returns-in-Step c = rw (c.in-Step.is, c.put_decimal-in-Step.ensures.put, c.put_decimal.ensures.put) (simp (append_assoc, append-nil))
+returns-in-Step c = rw (c.in-Step.is, c.put_decimal-in-Step.ensures.put, c.put_decimal.ensures.put, c.from-in-Step.ensures) (simp (append_assoc, append-nil))
 
 pub returns-in-Corrupt : goal.returns-in-Corrupt
 unfolding spaced arguments_of

@@ -6,5 +6,11 @@ use Rattle.captures.proofs.put_bytes.Goals as goal
 pub returns : goal.returns
 unfolding spaced bytes_words
 returns c =
-    rw (c.put_decimal.ensures.put, c.put_hexadecimal-2.ensures.put, c.put_hexadecimal.ensures.put, c.min-count.ensures)
-    (simp (append_assoc, append-nil))
+    rw (
+      c.put_decimal.ensures.put,
+      c.put_hexadecimal-2.ensures.put,
+      c.put_hexadecimal.ensures.put,
+      c.from.ensures,
+      c.from-count.ensures,
+      c.min.ensures,
+    ) (simp (append_assoc, append-nil))

@@ -24,7 +24,7 @@ returns-then-eq-3 c =
       same_word c.args.name.now _ c.as_slice.ensures c.eq.ensures c.if-eq.false,
       same_word c.args.name.now _ c.as_slice-else-eq.ensures c.eq-else-eq.ensures c.if-eq-2.false,
       same_word c.args.name.now _ c.as_slice-else-eq-2.ensures c.eq-else-eq-2.ensures c.if-eq-3.true,
-    ) c.read_bytes.ensures
+    ) c.read_vram.ensures
 
 pub returns-then-eq-4 : goal.returns-then-eq-4
 unfolding read_call
@@ -34,7 +34,7 @@ returns-then-eq-4 c =
       same_word c.args.name.now _ c.as_slice-else-eq.ensures c.eq-else-eq.ensures c.if-eq-2.false,
       same_word c.args.name.now _ c.as_slice-else-eq-2.ensures c.eq-else-eq-2.ensures c.if-eq-3.false,
       same_word c.args.name.now _ c.as_slice-else-eq-3.ensures c.eq-else-eq-3.ensures c.if-eq-4.true,
-    ) c.read_bytes-then-eq-4.ensures
+    ) c.read_oam.ensures
 
 pub returns-then-eq-5 : goal.returns-then-eq-5
 unfolding read_call

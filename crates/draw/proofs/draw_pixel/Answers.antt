@@ -6,4 +6,4 @@ use Rattle.draw.proofs.draw_pixel.Goals as goal
 pub mixer-color-requires : goal.mixer-color-requires
 mixer-color-requires c =
     let p = c.requires.1 in
-    (rw c.pop-front.ensures (front_coloured p.bg c.requires.2), rw c.pop-sprite.ensures (popped_coloured _ p.obj.pixels))
+    (rw c.take_front-front.ensures.answer (front_coloured p.bg c.requires.2), rw c.pop.ensures.answer (popped_coloured _ p.obj.pixels))

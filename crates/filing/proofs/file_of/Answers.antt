@@ -37,6 +37,6 @@ finish-requires c =
 pub returns-clause-file : goal.returns-clause-file
 returns-clause-file c =
     let a = c.args in
-    rw (c.finish.ensures.put, c.add_text-2.ensures.put, c.put_number-2.ensures.put, c.add_text.ensures.put, c.mark_word.ensures.word, c.put_number.ensures.put, c.begin.ensures.put, c.clear.ensures)
+    rw (c.finish.ensures.put, c.add_text-2.ensures.put, c.put_number-2.ensures.put, c.from.ensures, c.add_text.ensures.put, c.mark_word.ensures.word, c.put_number.ensures.put, c.begin.ensures.put, c.clear.ensures)
     (parts a.picture.now a.capture.now a.label.number a.label.stored a.label.mark
     ∙ sym (filed a.picture.now a.capture.now a.label.number a.label.stored a.label.mark c.if-picture-ne-PICTURE_BYTES.false c.if-capture-gt-NAME_BYTES.false))

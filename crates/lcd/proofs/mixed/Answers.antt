@@ -12,6 +12,9 @@ returns c =
     let g : c.args.c.g < 256 = omega arith in
     let b : c.args.c.b < 256 = omega arith in
     simp (
+      c.from-r.ensures,
+      c.from-g.ensures,
+      c.from-b.ensures,
       c.quarter_of.ensures,
       c.quarter_of-2.ensures,
       c.quarter_of-3.ensures,

@@ -1,61 +1,76 @@
 -- `line_sets::are_sets` meets its contract.
-use Rattle.std.proofs.Common.{◌≡◌, ℕ, ◌+◌, ◌<◌, Bool, true, false, eqb, List, get_or, sym, refl, ◌∙◌, arith, eqb-true}
-use borrow.Author.Tests.{eqb-false}
+use Rattle.std.proofs.Common.{◌≡◌, ℕ, zero, suc, ◌+◌, ◌<◌, Bool, true, false, ◌||◌, ◌&&◌, eqb, leb, List, get_or, sym, refl, ◌∙◌, arith, eqb-true, rules}
+use borrow.Author.Tests.{tests, eqb-false}
+use Rattle.std.specs.List.{list_all, range_with_len}
+use Rattle.std.proofs.lemmas.Bool.{leb-true, leb-false}
+use Rattle.std.proofs.lemmas.Iterator.{YieldsList-from_range}
+use Rattle.std.proofs.lemmas.Iterator.Search.{all_from_yields_List}
 use Rattle.logic.proofs.Tests.{clash}
 use Rattle.hardware.specs.Screen.{height}
+use Rattle.sprite.specs.Oam.{in_range}
 use Rattle.line_sets.specs.Sets.{is_set}
 use Rattle.line_sets.specs.Lines.{row_line}
 use Rattle.line_sets.specs.Numbers.{are_sets}
 use Rattle.line_sets.proofs.Lines.{no_row, row_elsewhere, row_touches, are_sets_all, are_sets_fails}
-use Rattle.line_sets.proofs.are_sets.Invariants.{SetsTo}
-use Rattle.line_sets.proofs.are_sets.Goals.{else-line-lt-HEIGHT-via-then-line-lt-HEIGHT+else-not-is_set, else-line-lt-HEIGHT-via-else-line-lt-HEIGHT}
 use Rattle.line_sets.proofs.are_sets.Goals as goal
 
-none_yet : (sets : List ℕ) (y : ℕ) → SetsTo sets y 0
-unfolding SetsTo
-none_yet sets y line h r = absurd (clash r (no_row y line))
+module _ (sets : List ℕ) (y : ℕ) where
+  -- the test of a row: its line is below the picture, or the line's number a set
+  abbrev fits : ℕ → Bool
+  fits row = leb height (row_line y row) || is_set (get_or sets (row_line y row) 0)
 
--- one row more, on its line
-sets_more : (sets : List ℕ) (y row own : ℕ) → row < 256 → own ≡ row_line y row → (own < height → is_set (get_or sets own 0) ≡ true)
-    → SetsTo sets y row → SetsTo sets y (row + 1)
-unfolding SetsTo
-sets_more sets y row own small its is before line h r = by (eqb line own) refl
-  where
-    by : (v : Bool) → eqb line own ≡ v → is_set (get_or sets line 0) ≡ true
-    by true e = let same = eqb-true line own e in rw same (is (rw same at h))
-    by false e =
-        before line h (sym (row_elsewhere y row line small (omega (arith, h)) (λ z. eqb-false line own e (z ∙ sym its))) ∙ r)
+  passes : (row : ℕ) → fits row ≡ true → row_line y row < height → is_set (get_or sets (row_line y row) 0) ≡ true
+  passes row e h = by (leb height (row_line y row)) refl
+    where
+      by : (v : Bool) → leb height (row_line y row) ≡ v → is_set (get_or sets (row_line y row) 0) ≡ true
+      by true b = let low = leb-true _ _ b in absurd (omega (arith, low, h))
+      by false b = rw b at e
 
-sets_through : (sets : List ℕ) (y tall : ℕ) → SetsTo sets y tall → are_sets sets y tall ≡ true
-unfolding SetsTo
-sets_through sets y tall h = are_sets_all sets y tall h
+  fails : (row : ℕ) → fits row ≡ false → (row_line y row < height) × (is_set (get_or sets (row_line y row) 0) ≡ false)
+  fails row e = by (leb height (row_line y row)) refl
+    where
+      by : (v : Bool) → leb height (row_line y row) ≡ v → (row_line y row < height) × (is_set (get_or sets (row_line y row) 0) ≡ false)
+      by true b = absurd (clash (rw b refl) e)
+      by false b = (leb-false _ _ b, rw b at e)
 
-pub loop-below-init : goal.loop-below-init
-loop-below-init c = (omega arith, none_yet _ _)
+  -- the numbers of the lines that the first rows touch are sets
+  unfoldable SetsTo : ℕ → Type 0
+  SetsTo row = (line : ℕ) → line < height → in_range y line row ≡ true → is_set (get_or sets line 0) ≡ true
 
-pub returns-then-not-is_set : goal.returns-then-not-is_set
-returns-then-not-is_set c =
-    let a = c.args in
-    sym
-    (are_sets_fails a.sets.now a.y a.tall c.row_line-line.result (omega arith)
-    (row_touches a.y c.loop-below.below c.row_line-line.result (omega arith) a.tall (omega arith) c.row_line-line.ensures)
-    (sym c.is_set.ensures ∙ c.if-not-is_set.true))
+  sets_none : SetsTo 0
+  unfolding SetsTo
+  sets_none line h r = absurd (clash r (no_row y line))
 
-pub loop-below-preserved : goal.loop-below-preserved
-loop-below-preserved c =
-    let own : c.row_line-line.result < height → is_set (get_or c.args.sets.now c.row_line-line.result 0) ≡ true =
-    λ h.
-    elim c.else-line-lt-HEIGHT.branch [
-      | else-line-lt-HEIGHT-via-then-line-lt-HEIGHT+else-not-is_set w ↦ sym w.is_set.ensures ∙ w.if-not-is_set.false
-      | else-line-lt-HEIGHT-via-else-line-lt-HEIGHT w ↦ absurd (omega (arith, w.if-line-lt-HEIGHT.false, h))
-    ] in (
-      omega (arith, c.loop-below-test.true),
-      sets_more _ _ _ _ (omega (arith, c.loop-below-test.true, c.ranges.tall)) c.row_line-line.ensures
-          own
-          c.loop-below.invariant.1,
-    )
+  -- one row more, on its line
+  sets_more : (row : ℕ) → row < 256 → (row_line y row < height → is_set (get_or sets (row_line y row) 0) ≡ true) → SetsTo row → SetsTo (row + 1)
+  unfolding SetsTo
+  sets_more row small is before line h r = by (eqb line (row_line y row)) refl
+    where
+      by : (v : Bool) → eqb line (row_line y row) ≡ v → is_set (get_or sets line 0) ≡ true
+      by true e = let same = eqb-true line (row_line y row) e in rw same (is (rw same at h))
+      by false e = before line h (sym (row_elsewhere y row line small (omega (arith, h)) (eqb-false line (row_line y row) e)) ∙ r)
+
+  -- all rows, from one on
+  module _ (tall : ℕ) (small : tall < 256) where
+    all_rows : (n row : ℕ) → row + n ≡ tall → SetsTo row → list_all fits (range_with_len row n) ≡ are_sets sets y tall
+    unfolding SetsTo
+    all_rows zero row e w =
+        let same : row ≡ tall = omega (arith, e) in
+        sym (are_sets_all sets y tall (rw same at w))
+    all_rows (suc n) row e w =
+        by (fits row) refl (λ t. all_rows n (row + 1) (omega (arith, e)) (sets_more row (omega (arith, e, small)) (passes row t) w))
+      where
+        by : (v : Bool) → fits row ≡ v → (fits row ≡ true → list_all fits (range_with_len (row + 1) n) ≡ are_sets sets y tall)
+            → v && list_all fits (range_with_len (row + 1) n) ≡ are_sets sets y tall
+        by true t others = others t
+        by false t others =
+            let f = fails row t in
+            sym (are_sets_fails sets y tall (row_line y row) f.0 (row_touches y row (row_line y row) (omega (arith, e, small)) tall (omega (arith, e)) refl) f.1)
 
 pub returns : goal.returns
 returns c =
-    let full : c.loop-below.below ≡ c.args.tall = omega arith in
-    sym (rw full at (sets_through _ _ _ c.loop-below.invariant.1))
+    let a = c.args in
+    all_from_yields_List (fits a.sets.now a.y) _ _ c.all.result c.all.ensures.ran
+    (YieldsList-from_range 0 a.tall a.tall refl (omega arith))
+    (λ x b q k. search (rules, tests))
+    ∙ all_rows a.sets.now a.y a.tall (omega (arith, c.ranges.tall)) a.tall 0 (omega arith) (sets_none _ _)

@@ -1,7 +1,7 @@
 -- `line_sets::move_entry` meets its contract.
 use Rattle.std.proofs.Common.{◌∙◌, arith, eq-eqb}
 use Rattle.line_sets.specs.Lines.{moved}
-use Rattle.line_sets.proofs.Moves.{moves, put_lines_length, put_lines_sets}
+use Rattle.line_sets.proofs.Moves.{moves, put_lines_sets}
 use Rattle.line_sets.proofs.move_entry.Goals as goal
 
 pub returns-then-old-new : goal.returns-then-old-new
@@ -12,9 +12,8 @@ pub put_lines-requires-2 : goal.put_lines-requires-2
 put_lines-requires-2 c =
     let first = c.put_lines.ensures in
     let a = c.args in (
-      rw first (put_lines_length a.i _ a.old a.tall a.sets.now),
       omega arith,
-      rw first (put_lines_sets a.i _ a.old a.tall a.sets.now a.new c.requires.3),
+      rw first (put_lines_sets a.i _ a.old a.tall a.sets.now a.new c.requires.2),
     )
 
 pub returns : goal.returns

@@ -1,5 +1,5 @@
 -- `line_sets::put_all` meets its contract.
-use Rattle.std.proofs.Common.{◌≡◌, ℕ, ◌+◌, ◌<◌, Bool, true, false, cond, ◌&&◌, eqb, List, replicate, sym, refl, ap, ◌∙◌, arith, le-ltb, lt-ltb, eqb-true}
+use Rattle.std.proofs.Common.{◌≡◌, ℕ, ◌+◌, ◌<◌, Bool, true, false, cond, ◌&&◌, eqb, List, length, replicate, sym, refl, ap, ◌∙◌, arith, le-ltb, lt-ltb, eqb-true}
 use lib.ListN.{length-replicate, get_or-replicate}
 use borrow.Author.Tests.{eqb-false}
 use Rattle.wrap.specs.Wrap.{bit_at}
@@ -73,12 +73,13 @@ module _ (oam : List ℕ) (tall n : ℕ) (sets : List ℕ) (w : Has oam tall n s
 
 pub loop-i-init : goal.loop-i-init
 loop-i-init c =
-    (omega arith, has_none _ _ _ (c.fill.ensures.after (λ y e. e) ∙ rw c.requires.1))
+    let sized : length c.args.sets.now ≡ height = omega arith in
+    (omega arith, has_none _ _ _ (c.fill.ensures.after (λ y e. e) ∙ rw sized))
 
 pub put_lines-requires : goal.put_lines-requires
 put_lines-requires c =
     let w = c.loop-i.invariant.1 in
-    (w.sized, omega arith, has_sets _ _ _ _ w _)
+    (omega arith, has_sets _ _ _ _ w _)
 
 pub loop-i-preserved : goal.loop-i-preserved
 loop-i-preserved c =

@@ -5,6 +5,6 @@ use Rattle.memory.proofs.fresh_state.Goals as goal
 pub returns : goal.returns
 unfolding fresh_state
 returns c =
-    let palettes = c.fresh_palettes-palettes.ensures in
+    let palettes = c.fresh_palettes.ensures in
     let colour = c.in_colour-cgb.ensures in
-    rw (c.fresh_beam-beam.ensures, c.fresh_pipe-pipe.ensures, c.blank-slots.ensures, palettes, c.fresh_registers-regs.ensures, colour)
+    rw (c.fresh_beam.ensures, c.fresh_pipe.ensures, c.blank.ensures, palettes, c.fresh_registers.ensures, colour)

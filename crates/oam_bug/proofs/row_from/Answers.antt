@@ -4,4 +4,4 @@ use Rattle.oam_bug.proofs.row_from.Goals as goal
 
 pub returns : goal.returns
 unfolding row_from
-returns c = simp c.row_at.ensures at c.put_row.ensures
+returns c = simp (c.row_at.ensures, c.preceding.ensures) at c.put_row.ensures

@@ -16,7 +16,7 @@ pub returns-then-q-le16 : goal.returns-then-q-le16
 returns-then-q-le16 c =
     let q = c.args.q in
     rw (le-leb _ _ c.if-q-le16.true)
-    (all_from_yields_List (λ (k : ℕ). bg_pixel_order (get_or q.pixels ((q.head + k) % 16) bg_blank)) _ _ c.all.result c.all.ensures.ran
+    (all_from_yields_List (λ (k : ℕ). bg_pixel_order (get_or q.pixels ((q.head + k) % 16) bg_blank)) _ _ c.all.result (rw c.from.ensures at c.all.ensures.ran)
     (YieldsList-from_range 0 q.len q.len refl (omega arith))
     (λ x b q k. search (rules, tests))
     ∙ ring_all bg_pixel_order 16 bg_blank q.pixels q.head q.len)

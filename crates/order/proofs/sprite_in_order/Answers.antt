@@ -16,7 +16,7 @@ pub returns-then-q-le8 : goal.returns-then-q-le8
 returns-then-q-le8 c =
     let q = c.args.q in
     rw (le-leb _ _ c.if-q-le8.true)
-    (all_from_yields_List (λ (k : ℕ). sprite_pixel_order (get_or q.pixels ((q.head + k) % 8) sprite_blank)) _ _ c.all.result c.all.ensures.ran
+    (all_from_yields_List (λ (k : ℕ). sprite_pixel_order (get_or q.pixels ((q.head + k) % 8) sprite_blank)) _ _ c.all.result (rw c.from.ensures at c.all.ensures.ran)
     (YieldsList-from_range 0 q.len q.len refl (omega arith))
     (λ x b q k. search (rules, tests))
     ∙ ring_all sprite_pixel_order 8 sprite_blank q.pixels q.head q.len)

@@ -15,4 +15,4 @@ pub returns : goal.returns
 unfolding fetched_pipe
 returns c =
     let last = eq-eqb (c.args.p.fetcher.delay - 1) 0 (omega arith) in
-    rw (last, c.take_row-fetcher.ensures, c.fetch_bg-fetched.ensures, dropped.fetch)
+    rw (last, c.take_row-n.ensures, c.fetch_bg-fetched.ensures, dropped.fetch)

@@ -13,4 +13,4 @@ unfolding sprite_added
 returns c =
     let started = c.starts_at in
     rw
-    (c.push.ensures, c.ink_of-ink.ensures, c.sprite_colors-row.ensures, dropped.start, c.tall_of.ensures, ← started.ensures, not-false started.result c.if-not-starts_at.false-raw)
+    (c.push.ensures, c.ink_of.ensures, c.sprite_colors-row.ensures, dropped.start, c.tall_of.ensures, ← started.ensures, not-false started.result c.if-not-starts_at.false-raw)

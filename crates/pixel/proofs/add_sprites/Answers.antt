@@ -26,4 +26,4 @@ unfolding sprites_added
 returns c =
     let a = c.args in
     let all = left_all a.vram.now a.r a.palettes.bytes a.at (omega arith) c.loop-slot.invariant in
-    rw (← c.bit.ensures, not-false c.bit.result c.if-not-bit.false-raw) all
+    rw (← c.bit.ensures, not-false c.bit.result c.if-not-bit.false-raw, ← c.entries-slot-items.ensures) all

@@ -6,7 +6,7 @@ use native.Mathlib.Numerals.{add-one}
 use lib.ListN.{length, get_or, drop, drop_of_length-le}
 use lib.Seq.{drop-cons}
 use Rattle.sprite.specs.declared.SelectedSprite.{SelectedSprite}
-use Rattle.fifo.specs.declared.SpriteFifo.{SpriteFifo}
+use Rattle.fifo.specs.Sprites.{SpriteFifo}
 use Rattle.state.specs.declared.Registers.{Registers}
 use Rattle.state.specs.declared.Spot.{Spot}
 use Rattle.pixel.specs.Sprites.{sprite_added, all_added}

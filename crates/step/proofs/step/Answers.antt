@@ -43,10 +43,10 @@ finish-end-requires c =
     let s = stands (goal.at.finish-end-requires c).Joined-does_draw (begins_at (goal.at.finish-end-requires c).Joined-may_begin) in
     (s.fine, rw s.same.cycle c.requires.1)
 
-pub returns-then-bit : goal.returns-then-bit
-returns-then-bit c =
-    taken_on (stands (goal.at.returns-then-bit c).Joined-does_draw (begins_at (goal.at.returns-then-bit c).Joined-may_begin)) (sym c.bit.ensures ∙ c.if-bit.true) c.finish-end.ensures
-
 pub returns-else-bit : goal.returns-else-bit
 returns-else-bit c =
     taken_off (stands (goal.at.returns-else-bit c).Joined-does_draw (begins_at (goal.at.returns-else-bit c).Joined-may_begin)) (sym c.bit.ensures ∙ c.if-bit.false) c.off_report-report.ensures
+
+pub returns-then-bit : goal.returns-then-bit
+returns-then-bit c =
+    taken_on (stands (goal.at.returns-then-bit c).Joined-does_draw (begins_at (goal.at.returns-then-bit c).Joined-may_begin)) (sym c.bit.ensures ∙ c.if-bit.true) c.finish-end.ensures

@@ -8,9 +8,8 @@ use lib.ListN.{length, take, get_or, set}
 use lib.Seq.{take_all}
 use Rattle.colors.specs.declared.ColorPalette.{ColorPalette}
 use Rattle.fifo.specs.declared.BgFifoPixel.{BgFifoPixel}
-use Rattle.fifo.specs.declared.BgFifo.{BgFifo}
 use Rattle.fifo.specs.Ring.{laid}
-use Rattle.fifo.specs.Background.{bg_blank, bg_inked, bg_row, bg_pushed}
+use Rattle.fifo.specs.Background.{BgFifo, bg_blank, bg_inked, bg_row, bg_pushed}
 use Rattle.logic.proofs.Mapped.{map_at}
 use Rattle.fifo.proofs.Ring.{laid_more}
 use Rattle.fifo.proofs.Background.{bg_row_length}
@@ -48,5 +47,5 @@ loop-k-preserved c =
     record {
       head = v.head;
       len = v.len;
-      pixels = pushing_more a.self a.palette a.priority a.colors (omega (arith, c.well_formed)) c.loop-k.k (omega (arith, c.well_formed)) v.head c.slot.ensures v.pixels;
+      pixels = pushing_more a.self.now a.palette a.priority a.colors (omega (arith, c.well_formed)) c.loop-k.k (omega (arith, c.well_formed)) v.head (rw c.from-len.ensures at c.slot-at.ensures) v.pixels;
     }

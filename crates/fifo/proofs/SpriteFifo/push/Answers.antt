@@ -7,13 +7,12 @@ use native.Mathlib.Omega.{arith}
 use lib.ListN.{length, take, get_or, set}
 use lib.Seq.{take_all, length-take-le}
 use Rattle.fifo.specs.declared.SpriteFifoPixel.{SpriteFifoPixel}
-use Rattle.fifo.specs.declared.SpriteFifo.{SpriteFifo}
 use Rattle.fifo.specs.Ring.{laid}
-use Rattle.fifo.specs.Sprites.{sprite_blank, sprite_queued, inked, inked_row, over, merged, sprite_pushed}
+use Rattle.fifo.specs.Sprites.{SpriteFifo, sprite_blank, sprite_queued, inked, inked_row, over, merged, sprite_pushed}
 use Rattle.logic.proofs.Mapped.{map_at}
 use Rattle.fifo.proofs.Ring.{live_at, laid_more, laid_past}
 use Rattle.fifo.proofs.Sprites.{sprite_length, inked_row_length, mix_length}
-use Rattle.fifo.proofs.SpriteFifo.push.Goals.{then-k-self, else-k-self}
+use Rattle.fifo.proofs.SpriteFifo.push.Goals.{then-k-from, else-k-from}
 use Rattle.fifo.proofs.SpriteFifo.push.Goals as goal
 
 -- the mix: pixel by pixel the older or the newer, and the row's own past the older ones
@@ -83,13 +82,13 @@ loop-k-preserved c =
     let v = l.invariant in
     let eight : length a.colors ≡ 8 = omega (arith, c.well_formed) in
     let less : l.k < 8 = omega (arith, c.well_formed) in
-    let laid_law : set l.self.pixels c.slot-at.result c.if-k-self.self
-    ≡ laid 8 a.self.pixels a.self.head (take (l.k + 1) (merged a.coord (sprite_queued a.self) (inked_row a.ink a.colors))) =
-    elim c.if-k-self.branch [
-      | then-k-self w ↦
-          rw w.self-is (mixing_over a.coord a.self a.ink a.colors eight c.requires l.k less v.head c.slot-at.ensures v.pixels c.inked-new.ensures (rw v.len at w.if-k-self.true) w.over.ensures)
-      | else-k-self w ↦
-          rw w.self-is (mixing_new a.coord a.self a.ink a.colors eight c.requires l.k less v.head c.slot-at.ensures v.pixels c.inked-new.ensures (rw v.len at w.if-k-self.false))
+    let laid_law : set l.self.pixels c.slot-at.result c.if-k-from.self
+    ≡ laid 8 a.self.now.pixels a.self.now.head (take (l.k + 1) (merged a.coord (sprite_queued a.self.now) (inked_row a.ink a.colors))) =
+    elim c.if-k-from.branch [
+      | then-k-from w ↦
+          rw w.self-is (mixing_over a.coord a.self.now a.ink a.colors eight c.requires l.k less v.head c.slot-at.ensures v.pixels c.inked-new.ensures (rw (c.from.ensures, v.len) at w.if-k-from.true) w.over.ensures)
+      | else-k-from w ↦
+          rw w.self-is (mixing_new a.coord a.self.now a.ink a.colors eight c.requires l.k less v.head c.slot-at.ensures v.pixels c.inked-new.ensures (rw (c.from.ensures, v.len) at w.if-k-from.false))
     ]
     in
     record { head = v.head; len = v.len; pixels = laid_law }
@@ -97,4 +96,4 @@ loop-k-preserved c =
 pub returns : goal.returns
 returns c =
     let a = c.args in
-    mixing_all a.coord a.self a.ink a.colors (omega (arith, c.well_formed)) c.requires c.loop-k.k (omega (arith, c.well_formed)) c.loop-k.invariant.head c.loop-k.invariant.pixels
+    mixing_all a.coord a.self.now a.ink a.colors (omega (arith, c.well_formed)) c.requires c.loop-k.k (omega (arith, c.well_formed)) c.loop-k.invariant.head c.loop-k.invariant.pixels
