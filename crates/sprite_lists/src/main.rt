@@ -2,7 +2,9 @@
 // edit is two bytes: the low byte of an address, and a value.
 #![tactic(auto)]
 
-ghost use Rattle.std.specs.Prelude.{◌≡◌, true, ◌/◌, length, OnOk};
+ghost use Rattle.std.specs.Prelude.{◌≡◌, true, ◌/◌, length, OnOk, IfOk};
+ghost use Rattle.refusals.specs.Ladder.{own};
+ghost use Rattle.refusals.specs.Refused.{number_of};
 ghost use Rattle.sprite.specs.Pick.{is_tall};
 ghost use Rattle.line_sets.specs.Lines.{AreOf};
 ghost use Rattle.sprite_lists.specs.Edits.{edited};
@@ -47,7 +49,10 @@ struct Lists {
 
 impl Lists {
     // The lists of OAM, unless sprites cannot be so tall.
-    fn of(oam: [u8; Machine::OAM_BYTES], tall: u8) -> Result<Self, Refusal> {
+    fn of(oam: [u8; Machine::OAM_BYTES], tall: u8) -> Result<Self, Refusal>
+        ensures number { number_of result ≡ own (is_tall tall) 4 }
+        ensures held { IfOk result (λ lists. (lists.oam ≡ oam) × (lists.tall ≡ tall)) }
+    {
         let mut sets = [0; Machine::HEIGHT];
         line_sets::build(&oam, &mut sets, tall)?;
         Ok(Lists { oam, sets, tall })
