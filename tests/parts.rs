@@ -91,7 +91,7 @@ const PARTS: &[(&str, Part)] = &[
 ];
 
 /// The cases of all parts at their own sizes, seed 1: a part that lost some is seen.
-const ALL: u64 = 33_279_999;
+const ALL: u64 = 33_280_069;
 
 fn main() {
     let words: Vec<String> = std::env::args().skip(1).collect();

@@ -7,7 +7,7 @@ use crate::states;
 use given::ppu::Ppu;
 use rattle::hardware::Machine;
 use rattle::ppu;
-use rattle::refusals::{need, Refusal};
+use rattle::refusals::{first, lowest, need, Refusal};
 use rattle::state::State;
 
 /// A public call with its arguments; `screen_buffer` has no number.
@@ -282,26 +282,72 @@ fn code(ladder: Result<(), u8>) -> u8 {
     ladder.err().unwrap_or(0)
 }
 
-/// The lowest number of a call: by a length, by the order of the state, its own.
-fn lowest(sized: bool, ordered: bool, own: u8) -> Result<(), u8> {
+/// The number of a refusal, 0 where there is none.
+fn number_of(answer: Result<(), Refusal>) -> u8 {
+    answer.err().map_or(0, |why| why.number())
+}
+
+/// A ladder over numbers: by a length, by the order of the state, its own.
+fn rungs(sized: bool, ordered: bool, own: u8) -> Result<(), u8> {
     need(sized, 1)?;
     need(ordered, 2)?;
     need(own == 0, own)
 }
 
 /// Of two own numbers the lower, unless its test passed.
-fn first(lower: u8, higher: u8) -> Result<(), u8> {
+fn two_rungs(lower: u8, higher: u8) -> Result<(), u8> {
     need(lower == 0, lower)?;
     need(higher == 0, higher)
 }
 
+/// What lengths and order give, and what stands for a ladder's own number.
+fn tests(number: u8) -> [(bool, bool, u8); 4] {
+    [
+        (false, false, 1),
+        (false, true, 1),
+        (true, false, 2),
+        (true, true, number),
+    ]
+}
+
 /// The ladder itself: lengths before the order of the state, that before the call's own test, of its two own numbers the lower
-/// first; on every input.
+/// first; by the calls' own three functions on every refusal, and by tests one after the other on every number.
 pub fn ladder(bench: &mut Bench) -> Result<(), String> {
     let mut hold = |wanted: u8, got: &dyn Fn() -> u8, inputs: &dyn Fn() -> String| {
         bench.cases += 1;
         same(wanted, got, inputs)
     };
+    let causes = [
+        Refusal::Length,
+        Refusal::State,
+        Refusal::Pace,
+        Refusal::Argument,
+        Refusal::Time,
+    ];
+    let mut answers = vec![Ok(())];
+    for why in causes {
+        answers.push(Err(why));
+        for passed in [false, true] {
+            hold(
+                if passed { 0 } else { why.number() },
+                &|| number_of(need(passed, why)),
+                &|| format!("need: {:?}, passed {}", why, passed),
+            )?;
+        }
+    }
+    for own in &answers {
+        for (sized, ordered, wanted) in tests(number_of(*own)) {
+            hold(wanted, &|| number_of(lowest(sized, ordered, *own)), &|| {
+                format!("lowest: sized {}, ordered {}, own {:?}", sized, ordered, own)
+            })?;
+        }
+        for higher in &answers {
+            let wanted = number_of(if own.is_err() { *own } else { *higher });
+            hold(wanted, &|| number_of(first(*own, *higher)), &|| {
+                format!("first: {:?} and {:?}", own, higher)
+            })?;
+        }
+    }
     for number in 0..=255 {
         for passed in [false, true] {
             hold(
@@ -310,19 +356,14 @@ pub fn ladder(bench: &mut Bench) -> Result<(), String> {
                 &|| format!("own number {}, passed {}", number, passed),
             )?;
         }
-        for (sized, ordered, wanted) in [
-            (false, false, 1),
-            (false, true, 1),
-            (true, false, 2),
-            (true, true, number),
-        ] {
-            hold(wanted, &|| code(lowest(sized, ordered, number)), &|| {
+        for (sized, ordered, wanted) in tests(number) {
+            hold(wanted, &|| code(rungs(sized, ordered, number)), &|| {
                 format!("sized {}, ordered {}, own {}", sized, ordered, number)
             })?;
         }
         for higher in 0..=255 {
             let wanted = [higher, number][(number != 0) as usize];
-            hold(wanted, &|| code(first(number, higher)), &|| {
+            hold(wanted, &|| code(two_rungs(number, higher)), &|| {
                 format!("own numbers {} and {}", number, higher)
             })?;
         }

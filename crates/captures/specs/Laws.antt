@@ -42,6 +42,6 @@ BlanksSayNothing = (l blanks : List ℕ) → every is_blank blanks ≡ true → 
 abbrev pub PrintedFits : Type 0
 PrintedFits = (call : Call) → length (printed call) ≤ 37
 
--- where such a buffer has the text at its start, and behind it what it had before, the two are the whole of it
+-- in such a buffer the text stands at the start, and the rest is as it was: what `put_call` promises is the whole buffer
 abbrev pub BufferIs : Type 0
 BufferIs = (call : Call) (before after : List ℕ) (r : ℕ) → take r after ≡ printed call → drop r after ≡ drop r before → after ≡ printed call ++ drop r before

@@ -2,9 +2,10 @@
 // (specs/Reading); a call's text is `printed` (specs/Printing). No line and no call is refused.
 #![tactic(auto)]
 
-ghost use Rattle.std.specs.Prelude.{◌≡◌, cond, ◌∷◌, ◌++◌, ◌+◌, ◌≤◌, max, length};
+ghost use Rattle.std.specs.Prelude.{◌≡◌, cond, ◌∷◌, ◌+◌, ◌≤◌, max, length, take, drop};
 ghost use Rattle.std.specs.Prelude.{not, true, false, List, ℕ, position};
 ghost use Rattle.std.specs.Iterator.{YieldsFirstRef, item_count};
+ghost use Rattle.texts.specs.Appended.{Appended, IsPrefixLen};
 ghost use Rattle.texts.specs.Numbers.{digits, decimal as decimalText};
 ghost use Rattle.captures.specs.Words.{is_hash, is_blank, text, words};
 ghost use Rattle.captures.specs.Numbers.{digit_in, number_from};
@@ -432,10 +433,20 @@ fn is_blank(b: u8) -> bool
 pub fn print_call(call: Call) -> Text<40>
     ensures { result ≡ printed call }
 {
-    let mut out = Text::new();
-    out.put(name_of(call));
-    put_arguments(&mut out, call);
-    out
+    let mut line = Text::new();
+    let len = put_call(call, line.room());
+    line.truncate(len);
+    line
+}
+
+// A call's text at the start of a buffer, the rest of which stays as it was; and how many bytes it has.
+pub fn put_call(call: Call, out: &mut [u8; 40]) -> usize
+    ensures prefix_len { IsPrefixLen result out.new }
+    ensures out_after { take result out.new ≡ printed call }
+    ensures out_unchanged { drop result out.new ≡ drop result out.old }
+{
+    let at = texts::put_bytes(out, 0, name_of(call));
+    put_arguments(out, at, call)
 }
 
 // A call's name.
@@ -454,39 +465,39 @@ fn name_of(call: Call) -> &'static [u8]
     }
 }
 
-// Puts a call's arguments behind its name.
-fn put_arguments(out: &mut Text<40>, call: Call)
-    requires { length out.old ≤ 7 }
-    ensures { out.new ≡ out.old ++ spaced (arguments_of call) }
+// Puts a call's arguments, from a place on. Each function that puts answers the place behind what it put.
+fn put_arguments(out: &mut [u8], at: usize, call: Call) -> usize
+    requires { at + 33 ≤ length out.old }
+    ensures { Appended out.old out.new at result (spaced (arguments_of call)) }
 {
     match call {
         Call::Start { dmg, cgb } => {
-            put_either(out, dmg, b"dmg", b"cgb");
-            put_either(out, cgb, b"colour", b"grey");
+            let at = put_either(out, at, dmg, b"dmg", b"cgb");
+            put_either(out, at, cgb, b"colour", b"grey")
         }
         Call::Write { address, value } => {
-            put_hexadecimal(out, u64::from(address), 4);
-            put_hexadecimal(out, u64::from(value), 2);
+            let at = put_hexadecimal(out, at, u64::from(address), 4);
+            put_hexadecimal(out, at, u64::from(value), 2)
         }
-        Call::Vram(bytes) | Call::Oam(bytes) => put_bytes(out, bytes),
+        Call::Vram(bytes) | Call::Oam(bytes) => put_bytes(out, at, bytes),
         Call::Step { cycles, times } => {
-            put_decimal(out, u32::from(cycles));
-            put_decimal(out, times);
+            let at = put_decimal(out, at, u32::from(cycles));
+            put_decimal(out, at, times)
         }
-        Call::Corrupt { kind } => put_word(out, kind_word(kind)),
-        Call::Colour { on } => put_either(out, on, b"on", b"off"),
+        Call::Corrupt { kind } => put_word(out, at, kind_word(kind)),
+        Call::Colour { on } => put_either(out, at, on, b"on", b"off"),
     }
 }
 
 // Puts the arguments of bytes: eight at most.
-fn put_bytes(out: &mut Text<40>, bytes: Bytes)
-    requires { length out.old + 33 ≤ 40 }
-    ensures { out.new ≡ out.old ++ spaced (bytes_words bytes) }
+fn put_bytes(out: &mut [u8], at: usize, bytes: Bytes) -> usize
+    requires { at + 33 ≤ length out.old }
+    ensures { Appended out.old out.new at result (spaced (bytes_words bytes)) }
 {
     let count = usize::from(bytes.count.min(8));
-    put_hexadecimal(out, u64::from(bytes.address), 4);
-    put_hexadecimal(out, bytes.bytes, 2 * count);
-    put_decimal(out, bytes.times);
+    let at = put_hexadecimal(out, at, u64::from(bytes.address), 4);
+    let at = put_hexadecimal(out, at, bytes.bytes, 2 * count);
+    put_decimal(out, at, bytes.times)
 }
 
 // The word of a kind.
@@ -503,44 +514,40 @@ fn kind_word(kind: u8) -> &'static [u8]
 }
 
 // Puts a space and one of two words.
-fn put_either(out: &mut Text<40>, first: bool, one: &[u8], other: &[u8])
-    requires { (length out.old + 1 + length one.now ≤ 40) × (length out.old + 1 + length other.now ≤ 40) }
-    ensures put { out.new ≡ out.old ++ 32 ∷ cond first one.now other.now }
-    ensures most { length out.new ≤ length out.old + 1 + max (length one.now) (length other.now) }
+fn put_either(out: &mut [u8], at: usize, first: bool, one: &[u8], other: &[u8]) -> usize
+    requires { (at + 1 + length one.now ≤ length out.old) × (at + 1 + length other.now ≤ length out.old) }
+    ensures put { Appended out.old out.new at result (32 ∷ cond first one.now other.now) }
+    ensures most { result ≤ at + 1 + max (length one.now) (length other.now) }
 {
-    if first {
-        put_word(out, one);
-    } else {
-        put_word(out, other);
-    }
+    put_word(out, at, if first { one } else { other })
 }
 
 // Puts a space and a decimal number.
-fn put_decimal(out: &mut Text<40>, n: u32)
-    requires { length out.old + 11 ≤ 40 }
-    ensures put { out.new ≡ out.old ++ 32 ∷ decimalText n }
-    ensures most { length out.new ≤ length out.old + 11 }
+fn put_decimal(out: &mut [u8], at: usize, n: u32) -> usize
+    requires { at + 11 ≤ length out.old }
+    ensures put { Appended out.old out.new at result (32 ∷ decimalText n) }
+    ensures most { result ≤ at + 11 }
 {
-    out.put_byte(b' ');
-    out.put_decimal(n);
+    let at = texts::put_byte(out, at, b' ');
+    texts::put_decimal(out, at, n)
 }
 
 // Puts a space and the last k hexadecimal digits of a number.
-fn put_hexadecimal(out: &mut Text<40>, n: u64, k: usize)
-    requires { length out.old + 1 + k ≤ 40 }
-    ensures put { out.new ≡ out.old ++ 32 ∷ digits 16 k n }
-    ensures len { length out.new ≡ length out.old + (1 + k) }
+fn put_hexadecimal(out: &mut [u8], at: usize, n: u64, k: usize) -> usize
+    requires { at + 1 + k ≤ length out.old }
+    ensures put { Appended out.old out.new at result (32 ∷ digits 16 k n) }
+    ensures end { result ≡ at + (1 + k) }
 {
-    out.put_byte(b' ');
-    out.put_digits(n, 16, k);
+    let at = texts::put_byte(out, at, b' ');
+    texts::put_digits(out, at, n, 16, k)
 }
 
 // Puts a space and a word.
-fn put_word(out: &mut Text<40>, word: &[u8])
-    requires { length out.old + 1 + length word.now ≤ 40 }
-    ensures put { out.new ≡ out.old ++ 32 ∷ word.now }
-    ensures len { length out.new ≡ length out.old + (1 + length word.now) }
+fn put_word(out: &mut [u8], at: usize, word: &[u8]) -> usize
+    requires { at + 1 + length word.now ≤ length out.old }
+    ensures put { Appended out.old out.new at result (32 ∷ word.now) }
+    ensures end { result ≡ at + (1 + length word.now) }
 {
-    out.put_byte(b' ');
-    out.put(word);
+    let at = texts::put_byte(out, at, b' ');
+    texts::put_bytes(out, at, word)
 }

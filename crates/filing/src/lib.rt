@@ -1,7 +1,8 @@
 // What a picture is filed as: the name of its file, and the file, with the texts that tell what it is.
 #![tactic(auto)]
 
-ghost use Rattle.std.specs.Prelude.{◌≡◌, ◌++◌, ◌↔◌, ◌+◌, ◌≤◌, true, length, IsOk, IfErr};
+ghost use Rattle.std.specs.Prelude.{◌≡◌, ◌↔◌, ◌+◌, ◌≤◌, true, length, take, IsOk, IfOk, IfErr};
+ghost use Rattle.texts.specs.Appended.{Appended, IsPrefixLen};
 ghost use Rattle.texts.specs.Numbers.{decimal};
 ghost use Rattle.png.specs.File.{text_chunk};
 ghost use Rattle.filing.specs.Names.{mark_word, mark_end, name_of, behind_slash, shown_name};
@@ -75,18 +76,48 @@ pub fn name_of(number: u32, mark: Mark) -> Text<32>
     name
 }
 
-// A number as a text of the file, by its key.
-fn put_number(out: &mut Text<FILE_BYTES>, key: &[u8], n: u32)
-    requires { (length key.now ≤ 79) × (length out.old + 23 + length key.now ≤ FILE_BYTES) }
-    ensures put { out.new ≡ out.old ++ text_chunk key.now (decimal n) }
-    ensures most { length out.new ≤ length out.old + 23 + length key.now }
+// A number as a text of the file, by its key, from a place on.
+#[tactic(auto, using(png::proofs::Chunks::text_length))]
+fn put_number(out: &mut [u8], at: usize, key: &[u8], n: u32) -> usize
+    requires { (length key.now ≤ 79) × (at + 23 + length key.now ≤ length out.old) }
+    ensures put { Appended out.old out.new at result (text_chunk key.now (decimal n)) }
+    ensures most { result ≤ at + 23 + length key.now }
 {
     let mut word = Text::<10>::new();
     word.put_decimal(n);
-    png::add_text(out, key, word.as_bytes());
+    png::add_text(out, at, key, word.as_bytes())
 }
 
-// The file of a picture: the picture with what is known of it and the name of its capture. No byte where there is none.
+// The file of a picture, the picture with what is known of it and the name of its capture, at the start of a buffer; and how many bytes it has.
+#[tactic(auto, using(png::proofs::Chunks::opening_length, png::proofs::Chunks::text_length))]
+pub fn put_file(
+    out: &mut [u8; FILE_BYTES],
+    picture: &[u8],
+    label: Label,
+    capture: &[u8],
+) -> Result<usize, Unfiled>
+    ensures file { IfOk result (λ end. IsPrefixLen end out.new
+        × (take end out.new ≡ file_of picture.now label.number label.mark label.stored capture.now)) }
+    ensures size { length out.new ≡ FILE_BYTES }
+    ensures filed { IsOk result ↔ (is_filed picture.now capture.now ≡ true) }
+    ensures why { IfErr result (Unfit picture.now capture.now) }
+{
+    if picture.len() != Machine::PICTURE_BYTES {
+        return Err(Unfiled::Picture);
+    }
+    if capture.len() > NAME_BYTES {
+        return Err(Unfiled::Capture);
+    }
+    let at = png::begin(out);
+    let at = put_number(out, at, b"Number", label.number);
+    let at = png::add_text(out, at, b"Mark", mark_word(label.mark));
+    let at = put_number(out, at, b"Stored", u32::from(label.stored));
+    let at = png::add_text(out, at, b"Capture", capture);
+    let end = png::finish(out, at, picture);
+    Ok(end)
+}
+
+// The file of a picture as a text. No byte where there is none.
 pub fn file_of(
     out: &mut Text<FILE_BYTES>,
     picture: &[u8],
@@ -97,20 +128,16 @@ pub fn file_of(
     ensures filed { IsOk result ↔ (is_filed picture.now capture.now ≡ true) }
     ensures why { IfErr result (Unfit picture.now capture.now) }
 {
-    out.clear();
-    if picture.len() != Machine::PICTURE_BYTES {
-        return Err(Unfiled::Picture);
+    match put_file(out.room(), picture, label, capture) {
+        Ok(end) => {
+            out.truncate(end);
+            Ok(())
+        }
+        Err(why) => {
+            out.clear();
+            Err(why)
+        }
     }
-    if capture.len() > NAME_BYTES {
-        return Err(Unfiled::Capture);
-    }
-    png::begin(out);
-    put_number(out, b"Number", label.number);
-    png::add_text(out, b"Mark", mark_word(label.mark));
-    put_number(out, b"Stored", u32::from(label.stored));
-    png::add_text(out, b"Capture", capture);
-    png::finish(out, picture);
-    Ok(())
 }
 
 // The last part of a path, behind the last `/`.

@@ -63,6 +63,6 @@ fn run(input: &mut impl Read, out: &mut impl Write) -> Result<(), NoAnswer> {
 // The exit status tells nothing: a failed read or write is said on standard error.
 fn main(rt: HostRuntime) {
     if let Err(why) = run(&mut rt.stdin(), &mut rt.stdout()) {
-        wire::say(&mut rt.stderr(), "picks", &why);
+        wire::say_why(&mut rt.stderr(), "picks", &why);
     }
 }

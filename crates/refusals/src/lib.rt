@@ -2,7 +2,8 @@
 #![tactic(auto)]
 
 ghost use Rattle.std.specs.Prelude.{◌≡◌, cond, Ok, Err};
-ghost use Rattle.refusals.specs.Refused.{refusal_number};
+ghost use Rattle.refusals.specs.Ladder.{lowest, first};
+ghost use Rattle.refusals.specs.Refused.{refusal_number, number_of};
 
 use std::fmt;
 
@@ -47,9 +48,26 @@ impl fmt::Display for Refusal {
     }
 }
 
-// A test of a call, which is refused where it fails. A ladder of them, each with `?`, gives the lowest number that applies.
+// A test of a call, which is refused where it fails.
 pub fn need<E: Copy>(passed: bool, why: E) -> Result<(), E>
     ensures { result ≡ cond passed (Ok tt) (Err why) }
 {
     if passed { Ok(()) } else { Err(why) }
+}
+
+// The ladder: refused by 1 unless every lent buffer has its length, by 2 unless the state is in order, else as the call's own tests say.
+pub fn lowest(sized: bool, ordered: bool, own: Result<(), Refusal>) -> Result<(), Refusal>
+    ensures { number_of result ≡ lowest sized ordered (number_of own) }
+{
+    need(sized, Refusal::Length)?;
+    need(ordered, Refusal::State)?;
+    own
+}
+
+// Of a call's two own tests the one with the lower number comes first.
+pub fn first(lower: Result<(), Refusal>, higher: Result<(), Refusal>) -> Result<(), Refusal>
+    ensures { number_of result ≡ first (number_of lower) (number_of higher) }
+{
+    lower?;
+    higher
 }

@@ -90,13 +90,13 @@ pub fn write_port(p: PaletteSet, port: u16, address: u16, v: u8) -> PaletteSet
     requires { SetFine p × (port < 65535) }
     ensures { result ≡ port_written p port address v }
 {
-    let mut n = p;
     if address == port {
-        n.write_index(v);
+        p.after_write(false, v)
     } else if address == port + 1 {
-        n.write_color_data(v);
+        p.after_write(true, v)
+    } else {
+        p
     }
-    n
 }
 
 // Both palette sets after a write.

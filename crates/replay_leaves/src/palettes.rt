@@ -35,13 +35,13 @@ impl Palettes {
 
     // A write to the index port.
     fn write_index(&mut self, v: u8) -> [u8; 8] {
-        self.set.write_index(v);
+        self.set = self.set.after_write(false, v);
         wire::padded(&[self.set.read_index()])
     }
 
     // A write to the data port.
     fn write_data(&mut self, v: u8) -> [u8; 8] {
-        self.set.write_color_data(v);
+        self.set = self.set.after_write(true, v);
         self.ports()
     }
 

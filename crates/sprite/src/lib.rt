@@ -11,7 +11,7 @@ ghost use Rattle.sprite.specs.Pick.{selection, blank_slots, is_tall, pickable, p
 ghost use Rattle.refusals.specs.Refused.{number_of};
 
 use hardware::Machine;
-use refusals::{Refusal, need};
+use refusals::{Refusal, lowest, need};
 
 // The four bytes of an entry of OAM.
 #[derive(Clone, Copy)]
@@ -225,8 +225,11 @@ fn is_pickable(line: u8, tall: u8) -> bool
 fn allow_pick(oam: &[u8], line: u8, tall: u8) -> Result<(), Refusal>
     ensures { number_of result ≡ pick_number oam.now line tall }
 {
-    need(oam.len() == Machine::OAM_BYTES, Refusal::Length)?;
-    need(is_pickable(line, tall), Refusal::Argument)
+    lowest(
+        oam.len() == Machine::OAM_BYTES,
+        true,
+        need(is_pickable(line, tall), Refusal::Argument),
+    )
 }
 
 // The ten lowest entries in range of a line, in slots that are 0 past the count; refused by 1 or 4.

@@ -130,6 +130,6 @@ fn run(input: &mut impl Read, out: &mut impl Write) -> Result<(), NoAnswer> {
 // The exit status tells nothing: what has no answer, and a failed read or write, are said on standard error.
 fn main(rt: HostRuntime) {
     if let Err(why) = run(&mut rt.stdin(), &mut rt.stdout()) {
-        wire::say(&mut rt.stderr(), "sprite_lists", &why);
+        wire::say_why(&mut rt.stderr(), "sprite_lists", &why);
     }
 }

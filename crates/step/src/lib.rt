@@ -157,6 +157,7 @@ pub fn step(s: State, vram: &[u8], oam: &[u8], a: &mut [u8], b: &mut [u8], cycle
     ensures { StepTaken cycles (tables vram.now oam.now) s
         (pictures a.old b.old) result.report result.state (pictures a.new b.new) }
 {
+    let before = s.beam;
     let mut held = modes::mode_level(s);
     let mut n = s;
     if may_begin(n) {
@@ -167,14 +168,19 @@ pub fn step(s: State, vram: &[u8], oam: &[u8], a: &mut [u8], b: &mut [u8], cycle
     if does_draw(n) {
         n = draw_hidden(vram, n, a, b, cycles);
     }
-    // while the display is off nothing has changed, and nothing does
-    let report = if wrap::bit(n.regs.lcdc, 7) {
-        let end = finish(s.beam, held, n, cycles);
+    if wrap::bit(n.regs.lcdc, 7) {
+        let end = finish(before, held, n, cycles);
         n.regs = end.regs;
         n.beam = end.beam;
-        end.report
-    } else {
-        off_report(n)
-    };
-    Stepped { report, state: n }
+        // early: as the value of the `if`, with `s.beam` in place of `before`, tests/speed has scene b at 3.03 times, over its bound
+        return Stepped {
+            report: end.report,
+            state: n,
+        };
+    }
+    // while the display is off nothing has changed, and nothing does
+    Stepped {
+        report: off_report(n),
+        state: n,
+    }
 }

@@ -15,7 +15,7 @@ ghost use Rattle.terms.specs.Numbers.{vram_number, oam_number, locked_oam_number
 
 use hardware::{Machine, Mode};
 use oam_bug::Kind;
-use refusals::{Refusal, need};
+use refusals::{Refusal, first, lowest, need};
 use state::State;
 
 // Whether both tables have their length.
@@ -80,58 +80,73 @@ pub fn step(
     ensures { Graded s (step_number s (tables vram.now oam.now)
         (pictures a.now b.now) cycles) (number_of result) }
 {
-    need(all_fit(vram, oam, a, b), Refusal::Length)?;
-    need(order::in_order(s), Refusal::State)?;
-    need(is_paced(s.beam.cycle, cycles), Refusal::Pace)
+    lowest(
+        all_fit(vram, oam, a, b),
+        order::in_order(s),
+        need(is_paced(s.beam.cycle, cycles), Refusal::Pace),
+    )
 }
 
 // A register write: refused by 1, 2, 4.
 pub fn write(s: State, a: &[u8], b: &[u8], address: u16) -> Result<(), Refusal>
     ensures { Graded s (write_number s (pictures a.now b.now) address) (number_of result) }
 {
-    need(pictures_fit(a, b), Refusal::Length)?;
-    need(order::in_order(s), Refusal::State)?;
-    need(is_listed(address), Refusal::Argument)
+    lowest(
+        pictures_fit(a, b),
+        order::in_order(s),
+        need(is_listed(address), Refusal::Argument),
+    )
 }
 
 // A register read: refused by 2, 4.
 pub fn read(s: State, address: u16) -> Result<(), Refusal>
     ensures { Graded s (read_number s address) (number_of result) }
 {
-    need(order::in_order(s), Refusal::State)?;
-    need(registers::is_readable(address), Refusal::Argument)
+    lowest(
+        true,
+        order::in_order(s),
+        need(registers::is_readable(address), Refusal::Argument),
+    )
 }
 
 // A VRAM write, and a locked VRAM call, write or read: refused by 1, 2.
 pub fn vram(s: State, vram: &[u8]) -> Result<(), Refusal>
     ensures { Graded s (vram_number s vram.now) (number_of result) }
 {
-    need(vram.len() == Machine::VRAM_BYTES, Refusal::Length)?;
-    need(order::in_order(s), Refusal::State)
+    lowest(
+        vram.len() == Machine::VRAM_BYTES,
+        order::in_order(s),
+        Ok(()),
+    )
 }
 
 // An OAM write: refused by 1, 4.
 pub fn oam(oam: &[u8], address: u16) -> Result<(), Refusal>
     ensures { number_of result ≡ oam_number oam.now address }
 {
-    need(oam.len() == Machine::OAM_BYTES, Refusal::Length)?;
-    need(is_in_oam(address), Refusal::Argument)
+    lowest(
+        oam.len() == Machine::OAM_BYTES,
+        true,
+        need(is_in_oam(address), Refusal::Argument),
+    )
 }
 
 // A locked OAM call, write or read: refused by 1, 2, 4.
 pub fn locked_oam(s: State, oam: &[u8], address: u16) -> Result<(), Refusal>
     ensures { Graded s (locked_oam_number s oam.now address) (number_of result) }
 {
-    need(oam.len() == Machine::OAM_BYTES, Refusal::Length)?;
-    need(order::in_order(s), Refusal::State)?;
-    need(is_in_oam(address), Refusal::Argument)
+    lowest(
+        oam.len() == Machine::OAM_BYTES,
+        order::in_order(s),
+        need(is_in_oam(address), Refusal::Argument),
+    )
 }
 
 // The colour flag: refused by 2.
 pub fn colour(s: State) -> Result<(), Refusal>
     ensures { Graded s (colour_number s) (number_of result) }
 {
-    need(order::in_order(s), Refusal::State)
+    lowest(true, order::in_order(s), Ok(()))
 }
 
 // The kind of corruption that a number means: refused by 4. The calls take a number, and from here on it is a `Kind`.
@@ -147,17 +162,19 @@ pub fn kind(s: State, oam: &[u8], number: u8) -> Result<Kind, Refusal>
     ensures number { Graded s (kind_number s oam.now number) (number_of result) }
     ensures kind { IfOk result (λ kind. number_of_kind kind ≡ number) }
 {
-    need(oam.len() == Machine::OAM_BYTES, Refusal::Length)?;
-    need(order::in_order(s), Refusal::State)?;
-    let kind = known_kind(number)?;
-    need(is_timely(s), Refusal::Time)?;
-    Ok(kind)
+    let lower = need(oam_bug::is_kind(number), Refusal::Argument);
+    let higher = need(is_timely(s), Refusal::Time);
+    lowest(
+        oam.len() == Machine::OAM_BYTES,
+        order::in_order(s),
+        first(lower, higher),
+    )?;
+    known_kind(number)
 }
 
 // A picture asked for: refused by 1, 2.
 pub fn shown(s: State, a: &[u8], b: &[u8]) -> Result<(), Refusal>
     ensures { number_of result ≡ shown_number s (pictures a.now b.now) }
 {
-    need(pictures_fit(a, b), Refusal::Length)?;
-    need(order::in_order(s), Refusal::State)
+    lowest(pictures_fit(a, b), order::in_order(s), Ok(()))
 }

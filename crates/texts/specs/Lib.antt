@@ -2,3 +2,4 @@
 pub mod Appended
 pub mod Numbers
 pub mod Laws
+pub mod Room

@@ -6,6 +6,7 @@ ghost use Rattle.std.specs.Prelude.{◌≡◌, ◌≤◌, ◌-◌, ◌++◌, len
 ghost use Rattle.std.specs.Int.{w16, w64, to_le_bytes};
 ghost use Rattle.wire.specs.Fnv.{of_nothing, with_byte, with_bytes};
 
+use std::fmt::InlineText;
 use std::io::{Read, Write};
 use std::{fmt, io};
 
@@ -107,9 +108,16 @@ pub fn read_input(input: &mut impl Read, buffer: &mut [u8]) -> Result<usize, NoA
     Ok(n)
 }
 
-// Says something on standard error, after the program's name. Where that fails too, nothing is left to do.
-pub fn say(err: &mut impl Write, program: &str, why: &impl fmt::Display) {
-    let _ = writeln!(err, "{program}: {why}");
+// Says something on standard error, after the program's name: any bytes. Where that fails too, nothing is left to do.
+pub fn say(err: &mut impl Write, program: &[u8], line: &[u8]) {
+    let _ = err.write_all(program);
+    let _ = err.write_all(line);
+}
+
+// Says why something has no answer, in a line of its own: the words and the line's end have 256 bytes at most, and longer ones are cut.
+pub fn say_why(err: &mut impl Write, program: &str, why: &impl fmt::Display) {
+    let line = InlineText::<256>::of(format_args!(": {why}\n"));
+    say(err, program.as_bytes(), line.as_str().as_bytes());
 }
 
 // An answer that begins with these bytes: 0s stand behind them.
@@ -182,7 +190,7 @@ pub fn answer_list<const N: usize>(
 }
 
 // The digest of the bytes taken in so far.
-#[derive(Clone, Copy)]
+#[derive(Clone, Copy, Debug, PartialEq, Eq)]
 pub struct Digest(u64);
 
 impl Digest {

@@ -1,42 +1,29 @@
--- `filing::file_of` meets its contract: the parts of the file are put one behind the other.
-use mathlib.Core.Path.{ap, sym, ◌∙◌}
+-- `filing::file_of` meets its contract: the text is cut to the file that was put into its room.
+use mathlib.Core.Path.{◌≡◌, sym, ◌∙◌}
+use mathlib.Core.List.{List, []}
+use Prim.Native.Nat.{ℕ}
 use native.Mathlib.Omega.{arith}
-use lib.ListN.{length}
-use Rattle.filing.proofs.Files.{filed, no_picture, no_name, parts}
+use lib.Seq.{take-take}
+use Rattle.beam.specs.declared.Mark.{Mark}
+use Rattle.filing.specs.declared.TheConstants.{FILE_BYTES}
+use Rattle.filing.specs.declared.Unfiled.{Unfiled}
+use Rattle.filing.specs.declared.Unfiled.TheVariants.{Picture, Capture}
+use Rattle.filing.specs.Files.{file_of, Unfit}
+use Rattle.filing.proofs.Files.{no_picture, no_name}
 use Rattle.filing.proofs.file_of.Goals as goal
 
-pub returns-then-picture-ne-PICTURE_BYTES-clause-file : goal.returns-then-picture-ne-PICTURE_BYTES-clause-file
-returns-then-picture-ne-PICTURE_BYTES-clause-file c =
+-- where there is a reason there is no byte
+unfit : (picture capture : List ℕ) (number stored : ℕ) (mark : Mark) (why : Unfiled) → Unfit picture capture why
+    → file_of picture number mark stored capture ≡ []
+unfit picture capture number stored mark Picture u = no_picture picture capture number stored mark u
+unfit picture capture number stored mark Capture u = no_name picture capture number stored mark u.0 u.1
+
+pub returns-in-Ok-clause-file : goal.returns-in-Ok-clause-file
+returns-in-Ok-clause-file c =
+    let put = c.in-Ok.ensures.file in
+    c.truncate.ensures ∙ take-take c.in-Ok.end FILE_BYTES c.put_file.new.out (omega (arith, put.0.0, c.put_file.ensures.size)) ∙ put.1
+
+pub returns-in-Err-clause-file : goal.returns-in-Err-clause-file
+returns-in-Err-clause-file c =
     let a = c.args in
-    c.clear.ensures ∙ sym (no_picture a.picture.now a.capture.now a.label.number a.label.stored a.label.mark c.if-picture-ne-PICTURE_BYTES.true)
-
-pub returns-then-capture-gt-NAME_BYTES-clause-file : goal.returns-then-capture-gt-NAME_BYTES-clause-file
-returns-then-capture-gt-NAME_BYTES-clause-file c =
-    let a = c.args in
-    c.clear.ensures ∙ sym (no_name a.picture.now a.capture.now a.label.number a.label.stored a.label.mark c.if-picture-ne-PICTURE_BYTES.false c.if-capture-gt-NAME_BYTES.true)
-
-pub add_text-requires : goal.add_text-requires
-add_text-requires c =
-    let most = c.mark_word.ensures.most in
-    (omega arith, (omega (arith, most), omega (arith, most, c.put_number.ensures.most, c.begin.ensures.len, ap length c.clear.ensures)))
-
-pub put_number-requires-2 : goal.put_number-requires-2
-put_number-requires-2 c =
-    (omega arith, omega (arith, c.add_text.ensures.len, c.mark_word.ensures.most, c.put_number.ensures.most, c.begin.ensures.len, ap length c.clear.ensures))
-
-pub add_text-requires-2 : goal.add_text-requires-2
-add_text-requires-2 c =
-    let short = c.if-capture-gt-NAME_BYTES.false in
-    (omega arith, (omega (arith, short), omega (arith, short, c.put_number-2.ensures.most, c.add_text.ensures.len, c.mark_word.ensures.most, c.put_number.ensures.most, c.begin.ensures.len, ap length c.clear.ensures)))
-
-pub finish-requires : goal.finish-requires
-finish-requires c =
-    let short = c.if-capture-gt-NAME_BYTES.false in
-    (omega arith, (c.if-picture-ne-PICTURE_BYTES.false, omega (arith, short, c.add_text-2.ensures.len, c.put_number-2.ensures.most, c.add_text.ensures.len, c.mark_word.ensures.most, c.put_number.ensures.most, c.begin.ensures.len, ap length c.clear.ensures)))
-
-pub returns-clause-file : goal.returns-clause-file
-returns-clause-file c =
-    let a = c.args in
-    rw (c.finish.ensures.put, c.add_text-2.ensures.put, c.put_number-2.ensures.put, c.from.ensures, c.add_text.ensures.put, c.mark_word.ensures.word, c.put_number.ensures.put, c.begin.ensures.put, c.clear.ensures)
-    (parts a.picture.now a.capture.now a.label.number a.label.stored a.label.mark
-    ∙ sym (filed a.picture.now a.capture.now a.label.number a.label.stored a.label.mark c.if-picture-ne-PICTURE_BYTES.false c.if-capture-gt-NAME_BYTES.false))
+    c.clear.ensures ∙ sym (unfit a.picture.now a.capture.now a.label.number a.label.stored a.label.mark c.in-Err.why c.in-Err.ensures.why)

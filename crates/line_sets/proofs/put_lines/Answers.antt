@@ -1,14 +1,13 @@
 -- `line_sets::put_lines` meets its contract.
-use Rattle.std.proofs.Common.{◌≡◌, ℕ, ◌+◌, ◌<◌, ◌≤◌, Bool, true, false, eqb, List, length, get_or, set, sym, refl, ◌∙◌, arith, length-set, get_or-set_other, get_or-set_same, eqb-true, ltb, ltb-true, ltb-false}
+use Rattle.std.proofs.Common.{◌≡◌, ℕ, ◌+◌, ◌<◌, ◌≤◌, Bool, true, false, eqb, List, length, get_or, set, sym, refl, ◌∙◌, arith, length-set, get_or-set_other, get_or-set_same, eqb-true}
 use borrow.Author.Tests.{eqb-false}
-use Rattle.logic.proofs.Tests.{clash}
 use Rattle.hardware.specs.Screen.{height}
 use Rattle.line_sets.specs.Sets.{is_set, put}
 use Rattle.line_sets.specs.Lines.{row_line, put_on, put_lines}
-use Rattle.line_sets.specs.Numbers.{are_sets, is_asked}
+use Rattle.line_sets.specs.Numbers.{are_sets}
 use Rattle.line_sets.proofs.Lines.{no_row, row_reached, row_elsewhere, row_touches, per_line_law, are_sets_at}
 use Rattle.line_sets.proofs.put_lines.Invariants.{PutTo}
-use Rattle.line_sets.proofs.put_lines.Goals.{in-Some, in_default}
+use Rattle.line_sets.proofs.put_lines.Goals.{then-line-lt-HEIGHT, else-line-lt-HEIGHT}
 use Rattle.line_sets.proofs.put_lines.Goals as goal
 
 put_none : (sets : List ℕ) (i : ℕ) (on : Bool) (y : ℕ) → PutTo sets i on y 0 sets
@@ -45,14 +44,6 @@ module _ (sets₀ : List ℕ) (i : ℕ) (on : Bool) (y row own : ℕ) (sets : Li
   unfolding PutTo
   put_below below line h = before line h ∙ rw (row_elsewhere y row line small (omega (arith, h)) (λ z. omega (arith, h, below, its, z)))
 
-  -- a line that has no set is below the picture, since the lines that the sprite touches have sets
-  put_none_there : (tall : ℕ) → row < tall → are_sets sets₀ y tall ≡ true → is_asked sets own ≡ false → PutTo sets₀ i on y (row + 1) sets
-  put_none_there tall l e n = by (ltb own height) refl
-    where
-      by : (v : Bool) → ltb own height ≡ v → PutTo sets₀ i on y (row + 1) sets
-      by true h = absurd (clash (put_set tall l e (ltb-true _ _ h)) (rw h at n))
-      by false h = put_below (ltb-false _ _ h)
-
 put_through : (sets₀ : List ℕ) (i : ℕ) (on : Bool) (y tall : ℕ) (sets : List ℕ) → length sets ≡ height → PutTo sets₀ i on y tall sets
     → sets ≡ put_lines i on y tall sets₀
 unfolding PutTo put_lines
@@ -61,21 +52,29 @@ put_through sets₀ i on y tall sets l h = per_line_law (put_on i on y tall sets
 pub loop-row-init : goal.loop-row-init
 loop-row-init c = (omega arith, omega arith, put_none _ _ _ _)
 
+pub invariant_of-set : goal.invariant_of-set
+invariant_of-set c =
+    let its = c.from-line.ensures ∙ c.row_line.ensures in
+    record {
+      of_entries =
+          put_set _ _ _ _ _ _ _ (omega arith) its c.loop-row.invariant.2 c.args.tall (omega arith) c.requires.1
+          (omega (arith, c.if-line-lt-HEIGHT.true));
+    }
+
 pub loop-row-preserved : goal.loop-row-preserved
 loop-row-preserved c =
-    let its = c.row_line-line.ensures in
-    elim c.match-set_on.branch [
-      | in-Some w ↦ (
+    let its = c.from-line.ensures ∙ c.row_line.ensures in
+    elim c.if-line-lt-HEIGHT.branch [
+      | then-line-lt-HEIGHT w ↦ (
         omega arith,
         rw w.sets-is (simp length-set (omega arith)),
-        rw (w.sets-is, w.from.ensures, w.put.ensures, w.in-Some.ensures.1)
-            (put_more _ _ _ _ _ _ _ (omega arith) its c.loop-row.invariant.2 (omega arith) w.in-Some.ensures.0),
+        rw (w.sets-is, w.put.ensures)
+            (put_more _ _ _ _ _ _ _ (omega arith) its c.loop-row.invariant.2 (omega arith) (omega (arith, w.if-line-lt-HEIGHT.true))),
       )
-      | in_default w ↦ (
+      | else-line-lt-HEIGHT w ↦ (
         omega arith,
         rw w.sets-is (omega arith),
-        rw w.sets-is
-            (put_none_there _ _ _ _ _ _ _ (omega arith) its c.loop-row.invariant.2 c.args.tall (omega arith) c.requires.1 w.in_default.ensures),
+        rw w.sets-is (put_below _ _ _ _ _ _ _ (omega arith) its c.loop-row.invariant.2 (omega (arith, w.if-line-lt-HEIGHT.false))),
       )
     ]
 

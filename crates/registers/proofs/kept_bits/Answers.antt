@@ -1,5 +1,6 @@
 -- `registers::kept_bits` meets its contract: the entry found is the first with the address.
-use Rattle.std.proofs.Common.{◌≡◌, refl, sym, ap, ◌∙◌, ℕ, Bool, true, false, cond, List, [], ◌∷◌, Option, Some, None, eqb, rules, tests, Bor}
+use Rattle.std.proofs.Common.{◌≡◌, refl, sym, ap, ◌∙◌, ℕ, Bool, true, false, cond, List, [], ◌∷◌, Option, Some, None, eqb, rules, tests, Bor, arith, eqb-true}
+use borrow.Author.Tests.{eqb-false}
 use Rattle.std.specs.Prelude.{MatchOption}
 use Rattle.std.specs.Option.{option_map}
 use Rattle.std.specs.List.{find}
@@ -7,6 +8,7 @@ use Rattle.std.proofs.lemmas.Iterator.{YieldsList-from_slice}
 use Rattle.std.proofs.lemmas.Iterator.Search.{find_from_yields_List}
 use Rattle.registers.specs.Registers.{writable, kept_in}
 use Rattle.registers.specs.declared.Writable.{Writable}
+use Rattle.registers.proofs.Entries.{found, passed, through}
 use Rattle.registers.proofs.kept_bits.Goals as goal
 
 -- the bits that an entry keeps, or 0 where there is none
@@ -14,16 +16,16 @@ kept_by : Option Writable → ℕ
 kept_by None = 0
 kept_by (Some w) = w.1
 
-first_of : (here : Bool) (w : Writable) (kept : ℕ) (o : Option Writable)
-    → kept ≡ kept_by o → cond here w.1 kept ≡ kept_by (cond here (Some w) o)
-unfolding kept_by
-first_of true w kept o e = refl
-first_of false w kept o e = e
-
+-- the first entry with the address gives its bits, entry by entry
 first : (l : List Writable) (address : ℕ) → kept_in l address ≡ kept_by (find (λ w. eqb w.0 address) l)
 unfolding kept_in kept_by
-first [] address = refl
-first (w ∷ rest) address = first_of (eqb w.0 address) w (kept_in rest address) (find (λ v. eqb v.0 address) rest) (first rest address)
+first [] address = sym (through [] address 0 (omega arith))
+first (w ∷ rest) address = by (first rest address) (eqb w.0 address) refl
+  where
+    by : kept_in rest address ≡ kept_by (find (λ v. eqb v.0 address) rest) → (here : Bool) → eqb w.0 address ≡ here
+        → kept_in (w ∷ rest) address ≡ kept_by (cond here (Some w) (find (λ v. eqb v.0 address) rest))
+    by later true e = sym (found (w ∷ rest) address 0 (omega arith) (eqb-true _ _ e))
+    by later false e = passed (w ∷ rest) address 0 (omega arith) (eqb-false _ _ e) ∙ later
 
 asked : (o : Option (Bor Writable)) (kept : ℕ) (At : Bor Writable → Type 0) → MatchOption o (kept ≡ 0) At
     → ((w : Bor Writable) → At w → kept ≡ w.now.1) → kept ≡ kept_by (option_map (λ w. w.now) o)

@@ -43,9 +43,9 @@ finish-end-requires c =
     let s = stands (goal.at.finish-end-requires c).Joined-does_draw (begins_at (goal.at.finish-end-requires c).Joined-may_begin) in
     (s.fine, rw s.same.cycle c.requires.1)
 
-pub returns-else-bit : goal.returns-else-bit
-returns-else-bit c =
-    taken_off (stands (goal.at.returns-else-bit c).Joined-does_draw (begins_at (goal.at.returns-else-bit c).Joined-may_begin)) (sym c.bit.ensures ∙ c.if-bit.false) c.off_report-report.ensures
+pub returns : goal.returns
+returns c =
+    taken_off (stands (goal.at.returns c).Joined-does_draw (begins_at (goal.at.returns c).Joined-may_begin)) (sym c.bit.ensures ∙ c.if-bit.false) c.off_report.ensures
 
 pub returns-then-bit : goal.returns-then-bit
 returns-then-bit c =

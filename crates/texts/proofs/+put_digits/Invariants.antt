@@ -1,5 +1,5 @@
 -- The measure is how many digits there are.
-use Rattle.texts.proofs.Text.+put_digits.Given as goal
+use Rattle.texts.proofs.+put_digits.Given as goal
 
 abbrev pub decreases-put_digits : goal.decreases-put_digits
-decreases-put_digits g l = l.k
+decreases-put_digits l = l.k
