@@ -134,7 +134,7 @@ fn put_lines(sets: &mut Sets, i: u8, on: bool, y: u8, tall: u8)
     for row in 0..tall {
         let line = usize::from(row_line(y, row));
         if line < Machine::HEIGHT {
-            // the clause says that it is a set: tested once more, a build takes a third more time
+            // the clause says that it is a set: tested once more, a build takes two fifths more time
             let set = Set { number: sets[line] };
             sets[line] = set.put(i, on).number;
         }
