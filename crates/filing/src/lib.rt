@@ -1,7 +1,7 @@
 // What a picture is filed as: the name of its file, and the file, with the texts that tell what it is.
 #![tactic(auto)]
 
-ghost use Rattle.std.specs.Prelude.{◌≡◌, ◌↔◌, ◌+◌, ◌≤◌, true, length, take, IsOk, IfOk, IfErr};
+ghost use Rattle.std.specs.Prelude.{◌≡◌, ◌↔◌, ◌+◌, ◌≤◌, true, length, take, drop, IsOk, IfOk, IfErr};
 ghost use Rattle.texts.specs.Appended.{Appended, IsPrefixLen};
 ghost use Rattle.texts.specs.Numbers.{decimal};
 ghost use Rattle.png.specs.File.{text_chunk};
@@ -88,7 +88,8 @@ fn put_number(out: &mut [u8], at: usize, key: &[u8], n: u32) -> usize
     png::add_text(out, at, key, word.as_bytes())
 }
 
-// The file of a picture, the picture with what is known of it and the name of its capture, at the start of a buffer; and how many bytes it has.
+// The file of a picture, the picture with what is known of it and the name of its capture, at the start of a buffer,
+// the rest of which stays as it was; and how many bytes it has. Nothing where there is none.
 #[tactic(auto, using(png::proofs::Chunks::opening_length, png::proofs::Chunks::text_length))]
 pub fn put_file(
     out: &mut [u8; FILE_BYTES],
@@ -97,7 +98,9 @@ pub fn put_file(
     capture: &[u8],
 ) -> Result<usize, Unfiled>
     ensures file { IfOk result (λ end. IsPrefixLen end out.new
-        × (take end out.new ≡ file_of picture.now label.number label.mark label.stored capture.now)) }
+        × (take end out.new ≡ file_of picture.now label.number label.mark label.stored capture.now)
+        × (drop end out.new ≡ drop end out.old)) }
+    ensures untouched { IfErr result (λ _. out.new ≡ out.old) }
     ensures size { length out.new ≡ FILE_BYTES }
     ensures filed { IsOk result ↔ (is_filed picture.now capture.now ≡ true) }
     ensures why { IfErr result (Unfit picture.now capture.now) }
